@@ -1,0 +1,424 @@
+-- The statements of ReadingClaims, proved. Assumes nothing.
+use mathlib.Core.Path.{_≡_, refl, sym, ap, ap₂, _∙_, subst}
+use mathlib.Core.List.{List, [], _∷_}
+use mathlib.Core.Bool.{Bool, true, false, cond}
+use mathlib.Core.Option.{Option, none, some}
+use mathlib.Core.Logic.{_⊎_, inl, inr, ⊎-elim}
+use Prim.Native.Nat.{ℕ, zero, suc, _+_, _≤_, _<_}
+use native.Mathlib.Omega.{arith}
+use lib.ListN.{length, take, drop, length-take}
+use lib.Seq.{drop-drop, take-at, take-take}
+use lib.Dec.{eqb}
+use borrow.Author.Tests.{eqb-true, eqb-false, ne-eqb}
+use Rattle.options.specs.Message.{Field, options, file, sname, start, bytes, turn, Opt, opt, place, dataStart, OptionAt, Stands, Holds, heldOption, Standing, Earlier}
+use Rattle.options.specs.Refusals.{same-field, field-before, When, within, Row, row-1, row-2, row-3, row-4, row-5, row-6, row-7, Before, by-part, by-offset, by-number, First}
+use Rattle.options.specs.Reading.{Reading, accepted, refused, readMessage, find}
+use Rattle.options.specs.Kinds.{Kind, address, addresses, pairs, flag, octet, number16, numbers16, unsigned32, signed32, text, opaque, Value, broken, number, part, Table, kinds, kindOf, judgedBy, judged, lengthFits, valueFits, meaning}
+use Rattle.options.specs.Answers.{isKnown, Answer, Absent, Unknown, Refused, valueAt, shown, shownFound, answered, noCode, lookup}
+use Rattle.options.specs.ReadingClaims.{RefusedByTheTable, IsAccepted, AcceptedByTheTable, AbsentIffNotHeld, ShowsWhatStands, Shows, shows-unknown, shows-broken, shows-number, shows-part, OwnBytes, StandsOnce, LookupRow, row-10, of-message, row-8-9, LookupRefusedByTheTable, KnownSetIndifferent, In, Precedes, CorrectList, Correct, ReadingIsCorrect}
+use Rattle.theorems.proofs.View.{clash}
+use Rattle.theorems.proofs.Fields.{option-same, option-in, compare}
+use Rattle.theorems.proofs.Messages.{turn-same, two-ways, no-way, Clean, Upto, says}
+
+-- ---- the first row is one
+
+pub order : (a b : When) → Before a b ⊎ ((a ≡ b) ⊎ Before b a)
+order a b = parts (compare (a .part) (b .part))
+  where
+    numbers : a .part ≡ b .part → a .offset ≡ b .offset → (a .number < b .number) ⊎ ((a .number ≡ b .number) ⊎ (b .number < a .number)) → Before a b ⊎ ((a ≡ b) ⊎ Before b a)
+    numbers e f (inl z) = inl (by-number e f z)
+    numbers e f (inr (inl z)) = inr (inl (ap₂ (λ (x y : ℕ). record { part = x; offset = y; number = a .number }) e f ∙ ap (λ (x : ℕ). record { part = b .part; offset = b .offset; number = x }) z))
+    numbers e f (inr (inr z)) = inr (inr (by-number (sym e) (sym f) z))
+
+    offsets : a .part ≡ b .part → (a .offset < b .offset) ⊎ ((a .offset ≡ b .offset) ⊎ (b .offset < a .offset)) → Before a b ⊎ ((a ≡ b) ⊎ Before b a)
+    offsets e (inl z) = inl (by-offset e z)
+    offsets e (inr (inl z)) = numbers e z (compare (a .number) (b .number))
+    offsets e (inr (inr z)) = inr (inr (by-offset (sym e) z))
+
+    parts : (a .part < b .part) ⊎ ((a .part ≡ b .part) ⊎ (b .part < a .part)) → Before a b ⊎ ((a ≡ b) ⊎ Before b a)
+    parts (inl z) = inl (by-part z)
+    parts (inr (inl z)) = offsets z (compare (a .offset) (b .offset))
+    parts (inr (inr z)) = inr (inr (by-part z))
+
+-- the place that a row gives, by when it is met
+abbrev placeOf : List ℕ → When → ℕ
+placeOf m w =
+    cond (eqb (w .part) 0) (cond (eqb (w .number) 3) 236 (length m))
+    (cond (eqb (w .part) 1) (start options + w .offset) (cond (eqb (w .part) 2) (start file + w .offset) (start sname + w .offset)))
+
+place-in : (m : List ℕ) (fd : Field) (i n : ℕ) → start fd + i ≡ placeOf m (within fd i n)
+place-in m options i n = refl
+place-in m file i n = refl
+place-in m sname i n = refl
+
+given : {m : List ℕ} {n p : ℕ} {w : When} → Row m n p w → (n ≡ w .number) × (p ≡ placeOf m w)
+given (row-1 h) = (refl, refl)
+given (row-2 h) = (refl, refl)
+given (row-3 h) = (refl, refl)
+given {m} (row-4 fd {i = i} a b c) = (refl, place-in m fd i 4)
+given {m} (row-5 fd a b) = (refl, place-in m fd (length (bytes fd m)) 5)
+given {m} (row-6 fd {i = i} a b c) = (refl, place-in m fd i 6)
+given {m} (row-7 fd {i = i} a b c) = (refl, place-in m fd i 7)
+
+first-one : {m : List ℕ} {n p k q : ℕ} → First m n p → First m k q → (n ≡ k) × (p ≡ q)
+first-one {m} {n} {p} {k} {q} a b = go (order (a .when) (b .when))
+  where
+    go : Before (a .when) (b .when) ⊎ ((a .when ≡ b .when) ⊎ Before (b .when) (a .when)) → (n ≡ k) × (p ≡ q)
+    go (inl z) = absurd (b .none-before (a .applies) z)
+    go (inr (inl z)) = (
+      given (a .applies) .0 ∙ ap (λ (w : When). w .number) z ∙ sym (given (b .applies) .0),
+      given (a .applies) .1 ∙ ap (placeOf m) z ∙ sym (given (b .applies) .1),
+    )
+    go (inr (inr z)) = absurd (a .none-before (b .applies) z)
+
+-- ---- refused, and accepted
+
+field-part : (fd : Field) → turn fd ≤ 3
+field-part options = omega arith
+field-part file = omega arith
+field-part sname = omega arith
+
+row-part : {m : List ℕ} {n p : ℕ} {w : When} → Row m n p w → w .part ≤ 3
+row-part (row-1 h) = omega arith
+row-part (row-2 h) = omega arith
+row-part (row-3 h) = omega arith
+row-part (row-4 fd a b c) = field-part fd
+row-part (row-5 fd a b) = field-part fd
+row-part (row-6 fd a b c) = field-part fd
+row-part (row-7 fd a b c) = field-part fd
+
+pub refused-by-the-table : RefusedByTheTable
+refused-by-the-table m n p = ((λ e. subst (Upto m 3) e (says m)), (λ f. back f (readMessage m) (says m)))
+  where
+    back : First m n p → (w : Reading) → Upto m 3 w → w ≡ refused n p
+    back f (refused k q) u = ap₂ refused (first-one u f .0) (first-one u f .1)
+    back f (accepted os) u = absurd (u .no-row (f .applies) (row-part (f .applies)))
+
+clean : {m : List ℕ} {os : List Opt} → readMessage m ≡ accepted os → Clean m 3 os
+clean {m} e = subst (Upto m 3) e (says m)
+
+pub no-row-of : {m : List ℕ} {os : List Opt} → readMessage m ≡ accepted os → (n p : ℕ) (w : When) → Row m n p w → ⊥
+no-row-of e n p w r = clean e .no-row r (row-part r)
+
+pub accepted-by-the-table : AcceptedByTheTable
+accepted-by-the-table m = ((λ a. no-row-of (a .reads)), (λ h. back h (readMessage m) refl (says m)))
+  where
+    back : ((n p : ℕ) (w : When) → Row m n p w → ⊥) → (w : Reading) → readMessage m ≡ w → Upto m 3 w → IsAccepted m
+    back h (refused k q) e u = absurd (h k q (u .when) (u .applies))
+    back h (accepted os) e u = record { options = os; reads = e }
+
+-- ---- the options of an accepted message are those that stand, in reading order
+
+module _ {m : List ℕ} {os : List Opt} (e : readMessage m ≡ accepted os) where
+  pub listed-stands : (o : Opt) → In o os → Standing m o
+  listed-stands o i = clean e .all-stand o i .1
+
+  pub stands-listed : (o : Opt) → Standing m o → In o os
+  stands-listed o s = clean e .all-in o (field-part (o .field)) s
+
+pub listed-in-order : (m : List ℕ) {os : List Opt} → readMessage m ≡ accepted os → (o q : Opt) → Precedes o q os → Earlier o q
+listed-in-order m e = clean {m = m} e .ordered
+
+module _ {m : List ℕ} (a : IsAccepted m) where
+  -- an option with the code c
+  pub held : (c : ℕ) (o : Opt) → In o (a .options) → c ≡ o .item .tag → (h : Holds m c) × (heldOption h ≡ o)
+  held c o i e =
+      let s = listed-stands (a .reads) o i in (
+        record {
+          field = o .field;
+          offset = o .offset;
+          body = o .item .body;
+          active = s .active;
+          stands = subst (λ (x : ℕ). Stands (bytes (o .field) m) (o .offset) x (o .item .body)) (sym e) (s .stands);
+        },
+        ap (λ (x : ℕ). opt (o .field) (o .offset) x (o .item .body)) e,
+      )
+
+  pub holds-in : {c : ℕ} (h : Holds m c) → In (heldOption h) (a .options)
+  holds-in h = stands-listed (a .reads) (heldOption h) (record { active = h .active; stands = h .stands })
+
+  -- a code does not stand at two places
+  one-field : {c : ℕ} (h k : Holds m c) → turn (h .field) < turn (k .field) → ⊥
+  one-field h k l = no-row-of (a .reads) _ _ _ (row-7 (k .field) (k .active) (k .stands) (field-before (h .field) l (h .active) (h .stands)))
+
+  one-offset : {c : ℕ} (h k : Holds m c) → h .field ≡ k .field → h .offset < k .offset → ⊥
+  one-offset {c} h k e l =
+      no-row-of (a .reads) _ _ _ (row-7 (k .field) (k .active) (k .stands) (same-field l (subst (λ (x : Field). Stands (bytes x m) (h .offset) c (h .body)) e (h .stands))))
+
+  once : {c : ℕ} (h k : Holds m c) → heldOption h ≡ heldOption k
+  once {c} h k = fields (compare (turn (h .field)) (turn (k .field)))
+    where
+      offsets : h .field ≡ k .field → (h .offset < k .offset) ⊎ ((h .offset ≡ k .offset) ⊎ (k .offset < h .offset)) → heldOption h ≡ heldOption k
+      offsets e (inl z) = absurd (one-offset h k e z)
+      offsets e (inr (inl z)) =
+          let b : h .body ≡ k .body =
+          option-same
+          (subst (λ (x : Field). OptionAt (bytes x m) (k .offset) c (h .body)) e (subst (λ (i : ℕ). OptionAt (bytes (h .field) m) i c (h .body)) z (h .stands .option)))
+          (k .stands .option) .1 in
+          cc
+      offsets e (inr (inr z)) = absurd (one-offset k h (sym e) z)
+
+      fields : (turn (h .field) < turn (k .field)) ⊎ ((turn (h .field) ≡ turn (k .field)) ⊎ (turn (k .field) < turn (h .field))) → heldOption h ≡ heldOption k
+      fields (inl z) = absurd (one-field h k z)
+      fields (inr (inl z)) = offsets (turn-same (h .field) (k .field) z) (compare (h .offset) (k .offset))
+      fields (inr (inr z)) = absurd (one-field k h z)
+
+pub stands-once : StandsOnce
+stands-once m c a h k = once a h k
+
+-- ---- the bytes of an option, in the message
+
+pub body-at : {f : List ℕ} {i c : ℕ} {d : List ℕ} → OptionAt f i c d → take (length d) (drop (i + 2) f) ≡ d
+body-at {f} {i} {c} {d} o = rw (← drop-drop 2 i f, o .reads) (take-at d (o .after) (length d) refl)
+
+-- a part of a list, and a part of that
+inner : (j n k : ℕ) (xs : List ℕ) → j + k ≤ n → take k (drop j (take n xs)) ≡ take k (drop j xs)
+inner zero n k xs h = take-take k n xs (omega arith)
+inner (suc j) zero k xs h = absurd (omega arith)
+inner (suc j) (suc n) k [] h = refl
+inner (suc j) (suc n) k (x ∷ xs) h = inner j n k xs (omega arith)
+
+within-part : (n b i c : ℕ) (d m : List ℕ) → OptionAt (take n (drop b m)) i c d → take (length d) (drop (b + i + 2) m) ≡ d
+within-part n b i c d m o =
+    let e : b + i + 2 ≡ b + (i + 2) = omega arith in
+    let l : i + 2 + length d ≤ n = omega (arith, option-in o, length-take n (drop b m)) in
+    rw (e, ← drop-drop (i + 2) b m, ← inner (i + 2) n (length d) (drop b m) l) (body-at o)
+
+pub own-bytes : OwnBytes
+own-bytes m o s = go (o .field) (s .stands .option)
+  where
+    go : (fd : Field) → OptionAt (bytes fd m) (o .offset) (o .item .tag) (o .item .body) → take (length (o .item .body)) (drop (start fd + o .offset + 2) m) ≡ o .item .body
+    go options x =
+        let e : 240 + o .offset + 2 ≡ 240 + (o .offset + 2) = omega arith in
+        rw (e, ← drop-drop (o .offset + 2) 240 m) (body-at x)
+    go file x = within-part 128 108 (o .offset) (o .item .tag) (o .item .body) m x
+    go sname x = within-part 64 44 (o .offset) (o .item .tag) (o .item .body) m x
+
+pub listed-bytes : (m : List ℕ) {os : List Opt} → readMessage m ≡ accepted os → (o : Opt) → In o os → take (length (o .item .body)) (drop (dataStart o) m) ≡ o .item .body
+listed-bytes m e o i = own-bytes m o (listed-stands e o i)
+
+-- ---- the lookup
+
+-- what is found is an option with the code, and nothing is found where there is none
+pub find-some : (c : ℕ) (os : List Opt) (o : Opt) → find c os ≡ some o → In o os × (c ≡ o .item .tag)
+unfolding find
+find-some c [] o e = clash (cc)
+find-some c (x ∷ os) o e = go (eqb c (x .item .tag)) refl e (find-some c os o)
+  where
+    go : (t : Bool) → eqb c (x .item .tag) ≡ t → cond t (some x) (find c os) ≡ some o → (find c os ≡ some o → In o os × (c ≡ o .item .tag)) → In o (x ∷ os) × (c ≡ o .item .tag)
+    go true q z ih = let y : o ≡ x = cc in (inl y, eqb-true c (x .item .tag) q ∙ ap (λ (v : Opt). v .item .tag) (sym y))
+    go false q z ih = (inr (ih z .0), ih z .1)
+
+pub find-none : (c : ℕ) (os : List Opt) → find c os ≡ none → (o : Opt) → In o os → c ≡ o .item .tag → ⊥
+unfolding find
+find-none c [] e o h q = h
+find-none c (x ∷ os) e o h q = go (eqb c (x .item .tag)) refl e h (find-none c os)
+  where
+    go : (t : Bool) → eqb c (x .item .tag) ≡ t → cond t (some x) (find c os) ≡ none → (o ≡ x) ⊎ In o os
+        → (find c os ≡ none → (o : Opt) → In o os → c ≡ o .item .tag → ⊥) → ⊥
+    go true r z h ih = clash (cc)
+    go false r z (inl y) ih = eqb-false c (x .item .tag) r (q ∙ ap (λ (v : Opt). v .item .tag) y)
+    go false r z (inr y) ih = ih z o y q
+
+module _ {m : List ℕ} (a : IsAccepted m) where
+  pub find-held : {c : ℕ} (h : Holds m c) → find c (a .options) ≡ some (heldOption h)
+  find-held {c} h = go (find c (a .options)) refl
+    where
+      go : (x : Option Opt) → find c (a .options) ≡ x → x ≡ some (heldOption h)
+      go none e = absurd (find-none c (a .options) e (heldOption h) (holds-in a h) refl)
+      go (some o) e =
+          let f = find-some c (a .options) o e in
+          let k = held a c o (f .0) (f .1) in
+          ap some (sym (k .1) ∙ once a (k .0) h)
+
+  pub find-not-held : (c : ℕ) → (Holds m c → ⊥) → find c (a .options) ≡ none
+  find-not-held c n = go (find c (a .options)) refl
+    where
+      go : (x : Option Opt) → find c (a .options) ≡ x → x ≡ none
+      go none e = refl
+      go (some o) e = let f = find-some c (a .options) o e in absurd (n (held a c o (f .0) (f .1) .0))
+
+-- codes that may be asked for
+pub asked : (c : ℕ) → 1 ≤ c → c ≤ 254 → noCode c ≡ false
+asked c l u = rw (ne-eqb c 0 (omega arith), ne-eqb c 255 (omega arith))
+
+pub held-asked : {m : List ℕ} {c : ℕ} → Holds m c → noCode c ≡ false
+held-asked {m} {c} h = rw (ne-eqb c 0 (h .stands .option .no-pad), ne-eqb c 255 (h .stands .option .no-end))
+
+refused-same : {n p k q : ℕ} → Refused n p ≡ Refused k q → (n ≡ k) × (p ≡ q)
+refused-same e = (cc, cc)
+
+module _ (t : Table) (set : ℕ → Bool) where
+  lookup-is : (m : List ℕ) (c : ℕ) → noCode c ≡ false → lookup t set m c ≡ answered t set c (readMessage m)
+  unfolding lookup
+  lookup-is m c e = rw e
+
+  pub lookup-found : (m : List ℕ) (c : ℕ) (a : IsAccepted m) → noCode c ≡ false → lookup t set m c ≡ shownFound t set (find c (a .options))
+  lookup-found m c a e = lookup-is m c e ∙ ap (answered t set c) (a .reads)
+
+  pub lookup-held : (m : List ℕ) (c : ℕ) → IsAccepted m → (h : Holds m c) → lookup t set m c ≡ shown t set (heldOption h)
+  lookup-held m c a h = lookup-found m c a (held-asked h) ∙ ap (shownFound t set) (find-held a h)
+
+  -- the answer for an option is its own
+  pub shown-shows : (o : Opt) → Shows t set o (shown t set o)
+  unfolding shown
+  shown-shows o = go (isKnown t set (o .item .tag)) (t .value (o .item .tag) (o .item .body)) refl refl
+    where
+      go : (k : Bool) (v : Value) → isKnown t set (o .item .tag) ≡ k → t .value (o .item .tag) (o .item .body) ≡ v
+          → Shows t set o (cond k (valueAt o v) (Unknown (dataStart o) (length (o .item .body))))
+      go true (broken n) x y = shows-broken x y
+      go true (number k z) x y = shows-number x y
+      go true (part k n) x y = shows-part x y
+      go false v x y = shows-unknown x
+
+  shows-not-absent : {o : Opt} {w : Answer} → Shows t set o w → w ≡ Absent → ⊥
+  shows-not-absent (shows-unknown x) e = clash (cc)
+  shows-not-absent (shows-broken x y) e = clash (cc)
+  shows-not-absent (shows-number x y) e = clash (cc)
+  shows-not-absent (shows-part x y) e = clash (cc)
+
+  shows-refused : {o : Opt} {w : Answer} {n p : ℕ} → Shows t set o w → w ≡ Refused n p
+      → (isKnown t set (o .item .tag) ≡ true) × (t .value (o .item .tag) (o .item .body) ≡ broken n) × (place o ≡ p)
+  shows-refused (shows-unknown x) e = clash (cc)
+  shows-refused (shows-broken x y) e = let z = refused-same e in (x, y ∙ ap broken (z .0), z .1)
+  shows-refused (shows-number x y) e = clash (cc)
+  shows-refused (shows-part x y) e = clash (cc)
+
+pub shows-what-stands : ShowsWhatStands
+shows-what-stands t set m c a h = rw (lookup-held t set m c a h) (shown-shows t set (heldOption h))
+
+pub absent-iff-not-held : AbsentIffNotHeld
+absent-iff-not-held t set m c a l u = (
+  (λ e h. shows-not-absent t set (shows-what-stands t set m c a h) e),
+  (λ n. lookup-found t set m c a (asked c l u) ∙ ap (shownFound t set) (find-not-held a c n)),
+)
+
+-- ---- the lookup's refusals
+
+no-code : (c : ℕ) → (c ≡ 0) ⊎ (c ≡ 255) → noCode c ≡ true
+no-code c (inl e) = rw e
+no-code c (inr e) = rw e
+
+code-range : (c : ℕ) → ((c ≡ 0) ⊎ (c ≡ 255) → ⊥) → c ≤ 255 → (1 ≤ c) × (c ≤ 254)
+code-range c n l = (low c (λ e. n (inl e)), high c (λ e. n (inr e)) l)
+  where
+    low : (c : ℕ) → (c ≡ 0 → ⊥) → 1 ≤ c
+    low c n = omega arith
+
+    high : (c : ℕ) → (c ≡ 255 → ⊥) → c ≤ 255 → c ≤ 254
+    high c n l = omega arith
+
+module _ (t : Table) (set : ℕ → Bool) (m : List ℕ) (c : ℕ) where
+  from-row : {n p : ℕ} → LookupRow t set m c n p → lookup t set m c ≡ Refused n p
+  unfolding lookup shown
+  from-row (row-10 h) = rw (no-code c h)
+  from-row {n} {p} (of-message l u f) = lookup-is t set m c (asked c l u) ∙ ap (answered t set c) (refused-by-the-table m n p .1 f)
+  from-row (row-8-9 l u a k h v) = lookup-held t set m c a h ∙ rw (k, v)
+
+  of-option : (n p : ℕ) → 1 ≤ c → c ≤ 254 → (a : IsAccepted m) (x : Option Opt) → find c (a .options) ≡ x → shownFound t set x ≡ Refused n p → LookupRow t set m c n p
+  of-option n p l u a none e z = clash (cc)
+  of-option n p l u a (some o) e z =
+      let f = find-some c (a .options) o e in
+      let k = held a c o (f .0) (f .1) in
+      let r = shows-refused t set (shown-shows t set (heldOption (k .0))) (ap (shown t set) (k .1) ∙ z) in
+      subst (λ (q : ℕ). LookupRow t set m c n q) (r .2) (row-8-9 l u a (r .0) (k .0) (r .1))
+
+  of-reading : (n p : ℕ) → 1 ≤ c → c ≤ 254 → (w : Reading) → readMessage m ≡ w → answered t set c w ≡ Refused n p → LookupRow t set m c n p
+  of-reading n p l u (refused k q) e z = of-message l u (refused-by-the-table m n p .0 (e ∙ ap₂ refused (refused-same z .0) (refused-same z .1)))
+  of-reading n p l u (accepted os) e z = of-option n p l u (record { options = os; reads = e }) (find c os) refl z
+
+  to-row : (n p : ℕ) → c ≤ 255 → lookup t set m c ≡ Refused n p → LookupRow t set m c n p
+  unfolding lookup
+  to-row n p h e = go (noCode c) refl e
+    where
+      go : (b : Bool) → noCode c ≡ b → cond b (Refused 10 0) (answered t set c (readMessage m)) ≡ Refused n p → LookupRow t set m c n p
+      go true q z = subst (λ (y : ℕ). LookupRow t set m c n y) (refused-same z .1) (subst (λ (y : ℕ). LookupRow t set m c y 0) (refused-same z .0) (row-10 (two-ways 0 255 c q)))
+      go false q z = let x = code-range c (no-way 0 255 c q) h in of-reading n p (x .0) (x .1) (readMessage m) refl z
+
+pub lookup-refused-by-the-table : LookupRefusedByTheTable
+lookup-refused-by-the-table t set m c n p h = (to-row t set m c n p h, from-row t set m c)
+
+-- what a kind makes of data that fits it is not broken
+meaning-whole : (k : Kind) (d : List ℕ) (n : ℕ) → meaning k d ≡ broken n → ⊥
+unfolding meaning
+meaning-whole address d n e = clash (cc)
+meaning-whole addresses d n e = clash (cc)
+meaning-whole pairs d n e = clash (cc)
+meaning-whole flag d n e = clash (cc)
+meaning-whole octet d n e = clash (cc)
+meaning-whole number16 d n e = clash (cc)
+meaning-whole numbers16 d n e = clash (cc)
+meaning-whole unsigned32 d n e = clash (cc)
+meaning-whole signed32 d n e = clash (cc)
+meaning-whole text d n e = clash (cc)
+meaning-whole opaque d n e = clash (cc)
+
+pub broken-8-or-9 : (c : ℕ) (d : List ℕ) (n : ℕ) → kinds .value c d ≡ broken n → (n ≡ 8) ⊎ (n ≡ 9)
+unfolding judged
+broken-8-or-9 c d n e = go (kindOf c) e
+  where
+    rules : (k : Kind) (x y : Bool) → cond x (cond y (meaning k d) (broken 9)) (broken 8) ≡ broken n → (n ≡ 8) ⊎ (n ≡ 9)
+    rules k true true e = absurd (meaning-whole k d n e)
+    rules k true false e = inr (cc)
+    rules k false y e = inl (cc)
+
+    go : (o : Option Kind) → judgedBy o c d ≡ broken n → (n ≡ 8) ⊎ (n ≡ 9)
+    go none e = clash (cc)
+    go (some k) e = rules k (lengthFits k c (length d)) (valueFits k c d) e
+
+pub known-set-indifferent : KnownSetIndifferent
+known-set-indifferent set set′ m c n p l n8 n9 e = from-row kinds set′ m c (same-row (to-row kinds set m c n p l e) n8 n9)
+  where
+    same-row : {n p : ℕ} → LookupRow kinds set m c n p → (n ≡ 8 → ⊥) → (n ≡ 9 → ⊥) → LookupRow kinds set′ m c n p
+    same-row (row-10 h) n8 n9 = row-10 h
+    same-row (of-message l u f) n8 n9 = of-message l u f
+    same-row {n} (row-8-9 l u a k h v) n8 n9 = absurd (⊎-elim n8 n9 (broken-8-or-9 c (h .body) n v))
+
+-- ---- no other reading is right
+
+same-list : (os ps : List Opt) → ((x : Opt) → In x os → In x ps) → ((x : Opt) → In x ps → In x os)
+    → ((x y : Opt) → Precedes x y os → Precedes y x ps → ⊥) → ((x : Opt) → Precedes x x os → ⊥) → ((x : Opt) → Precedes x x ps → ⊥) → os ≡ ps
+same-list [] [] a b c d e = refl
+same-list [] (p ∷ ps) a b c d e = absurd (b p (inl refl))
+same-list (o ∷ os) [] a b c d e = absurd (a o (inl refl))
+same-list (o ∷ os) (p ∷ ps) a b c d e =
+    ap₂ (λ (x : Opt) (l : List Opt). x ∷ l) one
+    (same-list os ps
+    (λ x h. ⊎-elim (λ (z : x ≡ p). absurd (d o (inl (refl, subst (λ (y : Opt). In y os) (z ∙ sym one) h)))) (λ (z : In x ps). z) (a x (inr h)))
+    (λ x h. ⊎-elim (λ (z : x ≡ o). absurd (e p (inl (refl, subst (λ (y : Opt). In y ps) (z ∙ one) h)))) (λ (z : In x os). z) (b x (inr h)))
+    (λ x y h k. c x y (inr h) (inr k)) (λ x h. d x (inr h)) (λ x h. e x (inr h)))
+  where
+    one : o ≡ p
+    one = ⊎-elim (λ (z : o ≡ p). z)
+        (λ (z : In o ps). ⊎-elim (λ (y : p ≡ o). sym y) (λ (y : In p os). absurd (c o p (inl (refl, y)) (inl (refl, z)))) (b p (inl refl)))
+        (a o (inl refl))
+
+-- what is read before is not read after
+pub not-both-earlier : (o q : Opt) → Earlier o q → Earlier q o → ⊥
+not-both-earlier o q (inl x) (inl y) = omega arith
+not-both-earlier o q (inl x) (inr y) = let z : turn (q .field) ≡ turn (o .field) = ap turn (y .0) in omega arith
+not-both-earlier o q (inr x) (inl y) = let z : turn (o .field) ≡ turn (q .field) = ap turn (x .0) in omega arith
+not-both-earlier o q (inr x) (inr y) = omega (arith, x .1, y .1)
+
+lists-same : (m : List ℕ) (os ps : List Opt) → CorrectList m os → CorrectList m ps → os ≡ ps
+lists-same m os ps a b =
+    same-list os ps (λ x h. b .lists x .1 (a .lists x .0 h)) (λ x h. a .lists x .1 (b .lists x .0 h))
+    (λ x y h k. not-both-earlier x y (a .in-order x y h) (b .in-order y x k)) (λ x h. never x (a .in-order x x h)) (λ x h. never x (b .in-order x x h))
+  where
+    never : (x : Opt) → Earlier x x → ⊥
+    never x e = not-both-earlier x x e e
+
+pub is-correct : (m : List ℕ) (os : List Opt) → readMessage m ≡ accepted os → CorrectList m os
+is-correct m os e = record { no-row = no-row-of e; lists = λ o. (listed-stands e o, stands-listed e o); in-order = listed-in-order m e }
+
+pub reading-is-correct : ReadingIsCorrect
+reading-is-correct m w = (go w, λ c. back w c (readMessage m) refl)
+  where
+    go : (w : Reading) → readMessage m ≡ w → Correct m w
+    go (refused n p) e = refused-by-the-table m n p .0 e
+    go (accepted os) e = is-correct m os e
+
+    back : (w : Reading) → Correct m w → (x : Reading) → readMessage m ≡ x → x ≡ w
+    back (refused n p) c x e = sym e ∙ refused-by-the-table m n p .1 c
+    back (accepted os) c (refused k q) e = absurd (let f = refused-by-the-table m k q .0 e in c .no-row k q (f .when) (f .applies))
+    back (accepted os) c (accepted ps) e = ap accepted (lists-same m ps os (is-correct m ps e) c)

@@ -1,0 +1,256 @@
+// The walk of one field of a message (document 01, The message and its fields): one walk for options, file and sname.
+ghost use mathlib.Core.Path.{_≡_};
+ghost use Prim.Native.Nat.{_+_, _*_, _<_, _≤_, _/_};
+ghost use lib.ListN.{length, getD, drop};
+ghost use Rattle.options.specs.Message.{start, turn};
+ghost use Rattle.options.specs.Reading.{parse};
+ghost use Rattle.wire.specs.Walk.{fieldOf, stopped, noState, walkField, hitAfter, overWrong, overAfter, recordRoom, Walks, itemAt};
+ghost use Rattle.wire.specs.Ahead.{nextOf};
+
+pub enum Field {
+    Options,
+    File,
+    Sname,
+}
+
+// Where the wanted code stands: the turn of its field (1 options, 2 file, 3 sname; 0: not met), its offset there and the length of its data.
+pub struct Hit {
+    pub field: u8,
+    pub offset: usize,
+    pub len: usize,
+}
+
+// What is kept of the options met: the set of their codes, the wanted one, and the value of option 52 (0: not met).
+pub struct State {
+    pub seen: [u64; 4],
+    pub hit: Hit,
+    pub over: u8,
+}
+
+// How a walk ended: with END, or with a refusal's number and place in the message.
+pub enum End {
+    Closed,
+    Fault { number: u8, place: usize },
+}
+
+// `size` is what the options, but 52, take as records of a sheet.
+pub struct Walked {
+    pub state: State,
+    pub size: usize,
+    pub end: End,
+}
+
+// Nothing met yet.
+pub fn fresh() -> State
+    ensures { λ r. ⌜ r ≡ noState ⌝ }
+{
+    State {
+        seen: [0; 4],
+        hit: Hit {
+            field: 0,
+            offset: 0,
+            len: 0,
+        },
+        over: 0,
+    }
+}
+
+// A refusal: nothing is told of what was met before it.
+pub fn stop(number: u8, place: usize) -> Walked
+    ensures { λ r. ⌜ r ≡ stopped number place ⌝ }
+{
+    Walked {
+        state: fresh(),
+        size: 0,
+        end: End::Fault { number, place },
+    }
+}
+
+// The place of a field's first byte in the message.
+pub fn base(field: Field) -> usize
+    ensures { λ r. ⌜ (r ≡ start (fieldOf field)) × (r ≤ 240) ⌝ }
+{
+    match field {
+        Field::Options => 240,
+        Field::File => 108,
+        Field::Sname => 44,
+    }
+}
+
+fn turn_of(field: Field) -> u8
+    ensures { λ r. ⌜ r ≡ turn (fieldOf field) ⌝ }
+{
+    match field {
+        Field::Options => 1,
+        Field::File => 2,
+        Field::Sname => 3,
+    }
+}
+
+fn wide(x: u8) -> usize
+    ensures { λ r. ⌜ (r ≡ x) × (r < 256) ⌝ }
+{
+    x as usize
+}
+
+// The word of a code in a set of codes.
+fn word(c: u8) -> usize
+    ensures { λ r. ⌜ (r ≡ c / 64) × (r < 4) ⌝ }
+{
+    (c / 64) as usize
+}
+
+// The first option with the wanted code stands.
+fn hit_after(h: Hit, want: u8, c: u8, turn: u8, i: usize, n: usize) -> Hit
+    ensures { λ r. ⌜ r ≡ hitAfter want h turn i c n ⌝ }
+{
+    if c == want {
+        if h.field == 0 {
+            return Hit {
+                field: turn,
+                offset: i,
+                len: n,
+            };
+        }
+    }
+    h
+}
+
+// What the option at i takes as a record of a sheet.
+fn record_room(c: u8, n: usize) -> usize
+    requires { ⌜ n < 256 ⌝ }
+    ensures { λ r. ⌜ (r ≡ recordRoom c n) × (r ≤ n + 3) ⌝ }
+{
+    if c == 52 { 0 } else { n + 3 }
+}
+
+// Whether the option with code c at i, whose n data bytes are within the field, is an option 52 that is refused.
+fn over_wrong(turn: u8, f: &[u8], i: usize, c: u8, n: usize) -> bool
+    requires { ⌜ i + 2 + n ≤ length (now f) ⌝ }
+    ensures { λ r. ⌜ r ≡ overWrong turn (itemAt c n (now (f .entry)) i) ⌝ }
+{
+    if c != 52 {
+        return false;
+    }
+    if turn != 1 {
+        return true;
+    }
+    if n != 1 {
+        return true;
+    }
+    let v = f[i + 2];
+    if v == 0 {
+        return true;
+    }
+    if 3 < v {
+        return true;
+    }
+    false
+}
+
+// The value of option 52 after that option; the first one stands.
+fn over_after(f: &[u8], i: usize, c: u8, n: usize, over: u8) -> u8
+    requires { ⌜ i + 2 + n ≤ length (now f) ⌝ }
+    ensures { λ r. ⌜ r ≡ overAfter over (itemAt c n (now (f .entry)) i) ⌝ }
+{
+    if c != 52 {
+        return over;
+    }
+    if over != 0 {
+        return over;
+    }
+    if n == 0 {
+        return 0;
+    }
+    f[i + 2]
+}
+
+// Walks a field, and keeps of it what the state says, on top of what was kept of the fields before.
+pub fn walk(field: Field, f: &[u8], want: u8, st: State) -> Walked
+    ensures { λ r. ⌜ Walks (now (f .entry)) (walkField (fieldOf field) want st (now (f .entry))) r ⌝ }
+{
+    let first = base(field);
+    let turn = turn_of(field);
+    let mut seen = st.seen;
+    let mut hit = st.hit;
+    let mut over = st.over;
+    let mut size: usize = 0;
+    let mut i: usize = 0;
+    while i < f.len() {
+        let c = f[i];
+        if c == 255 {
+            return Walked {
+                state: State { seen, hit, over },
+                size,
+                end: End::Closed,
+            };
+        }
+        if c == 0 {
+            i = i + 1;
+        } else {
+            if f.len() - i < 2 {
+                return stop(4, first + i);
+            }
+            let n = wide(f[i + 1]);
+            if f.len() - (i + 2) < n {
+                return stop(4, first + i);
+            }
+            if over_wrong(turn, f, i, c, n) {
+                return stop(6, first + i);
+            }
+            let k = word(c);
+            if (seen[k] >> (c % 64)) % 2 == 1 {
+                return stop(7, first + i);
+            }
+            seen[k] = seen[k] | (1u64 << (c % 64));
+            hit = hit_after(hit, want, c, turn, i, n);
+            over = over_after(f, i, c, n, over);
+            size = size + record_room(c, n);
+            i = i + 2 + n;
+        }
+    }
+    stop(5, first + i)
+}
+
+// What a field holds from an offset on, pads passed over.
+pub enum Spot {
+    Item { offset: usize, code: u8, len: usize },
+    Stop,
+}
+
+// The option at i, where the byte c is its code.
+fn item_at(f: &[u8], i: usize, c: u8) -> Spot
+    requires { ⌜ (i < length (now f)) × (c ≡ getD (now f) i 0) × (c ≡ 0 → ⊥) ⌝ }
+    ensures { λ r. ⌜ r ≡ nextOf (parse i 0 (drop i (now (f .entry)))) ⌝ }
+{
+    if c == 255 {
+        return Spot::Stop;
+    }
+    if f.len() - i < 2 {
+        return Spot::Stop;
+    }
+    let n = wide(f[i + 1]);
+    if f.len() - (i + 2) < n {
+        return Spot::Stop;
+    }
+    Spot::Item {
+        offset: i,
+        code: c,
+        len: n,
+    }
+}
+
+// The next option from an offset on; END and an option that runs past the field both stop.
+pub fn next_option(f: &[u8], from: usize) -> Spot
+    ensures { λ r. ⌜ r ≡ nextOf (parse from 0 (drop from (now (f .entry)))) ⌝ }
+{
+    let mut i = from;
+    while i < f.len() {
+        let c = f[i];
+        if c != 0 {
+            return item_at(f, i, c);
+        }
+        i = i + 1;
+    }
+    Spot::Stop
+}

@@ -1,0 +1,110 @@
+-- Kinds and their numbers. Assumes nothing.
+use mathlib.Core.Path.{_≡_, refl, sym, ap, _∙_}
+use mathlib.Core.Bool.{Bool, true, false, cond}
+use mathlib.Core.List.{List}
+use mathlib.Core.Option.{Option, none, some}
+use Prim.Native.Nat.{ℕ, zero, suc, _+_}
+use native.Mathlib.Omega.{arith}
+use borrow.Author.Tests.{ne-eqb}
+use lib.Dec.{eqb}
+use lib.ListN.{length}
+use Rattle.options.specs.Kinds.{Kind, address, addresses, pairs, flag, octet, number16, numbers16, unsigned32, signed32, text, opaque, Value, broken, number, part, kindOf, lengthFits, valueFits, meaning, judged, kinds}
+use Rattle.kinds.specs.Numbers.{numberOf, kindNumber, kindAt, numberOfFault, faultOf}
+
+pub named : (k : Kind) → kindAt (numberOf k) ≡ k
+named address = refl
+named addresses = refl
+named pairs = refl
+named flag = refl
+named octet = refl
+named number16 = refl
+named numbers16 = refl
+named unsigned32 = refl
+named signed32 = refl
+named text = refl
+named opaque = refl
+
+numbered : (k : Kind) → numberOf k ≡ 0 → ⊥
+numbered k e =
+    let p : k ≡ opaque = sym (named k) ∙ ap kindAt e in
+    omega (arith, ap numberOf p)
+
+-- what the number of a code's kind says of its row
+pub no-row : (o : Option Kind) (n : ℕ) → n ≡ kindNumber o → n ≡ 0 → o ≡ none
+no-row none n e z = refl
+no-row (some k) n e z = absurd (numbered k (sym e ∙ z))
+
+pub row : (o : Option Kind) (n : ℕ) → n ≡ kindNumber o → (n ≡ 0 → ⊥) → o ≡ some (kindAt n)
+row none n e z = absurd (z e)
+row (some k) n e z = rw (e, named k)
+
+-- n is none of the k numbers from a on, as the last arm of a `match` has it
+abbrev pub Outside : ℕ → ℕ → ℕ → Type 0
+Outside a zero n = Unit {0}
+Outside a (suc k) n = Outside a k n × (n ≡ a + k → ⊥)
+
+pub else-opaque : (n : ℕ) → Outside 1 10 n → kindAt n ≡ opaque
+else-opaque n h =
+    rw (
+      ne-eqb n 1 (h .0 .0 .0 .0 .0 .0 .0 .0 .0 .1),
+      ne-eqb n 2 (h .0 .0 .0 .0 .0 .0 .0 .0 .1),
+      ne-eqb n 3 (h .0 .0 .0 .0 .0 .0 .0 .1),
+      ne-eqb n 4 (h .0 .0 .0 .0 .0 .0 .1),
+      ne-eqb n 5 (h .0 .0 .0 .0 .0 .1),
+      ne-eqb n 6 (h .0 .0 .0 .0 .1),
+      ne-eqb n 7 (h .0 .0 .0 .1),
+      ne-eqb n 8 (h .0 .0 .1),
+      ne-eqb n 9 (h .0 .1),
+      ne-eqb n 10 (h .1),
+    )
+
+-- the kinds with no rule of value
+free : (c : ℕ) (d : List ℕ) (a b e f g : Bool)
+    → valueFits (cond a address (cond b addresses (cond e unsigned32 (cond f signed32 (cond g text opaque))))) c d ≡ true
+unfolding valueFits
+free c d true b e f g = refl
+free c d false true e f g = refl
+free c d false false true f g = refl
+free c d false false false true g = refl
+free c d false false false false true = refl
+free c d false false false false false = refl
+
+pub else-free : (n c : ℕ) (d : List ℕ) → Outside 3 5 n → valueFits (kindAt n) c d ≡ true
+else-free n c d h =
+    rw (ne-eqb n 3 (h .0 .0 .0 .0 .1), ne-eqb n 4 (h .0 .0 .0 .1), ne-eqb n 5 (h .0 .0 .1), ne-eqb n 6 (h .0 .1), ne-eqb n 7 (h .1))
+    (free c d (eqb n 1) (eqb n 2) (eqb n 8) (eqb n 9) (eqb n 10))
+
+-- what a kind makes of data that keeps its rules is no fault
+pub meant : (k : Kind) (d : List ℕ) → numberOfFault (meaning k d) ≡ 0
+unfolding meaning
+meant address d = refl
+meant addresses d = refl
+meant pairs d = refl
+meant flag d = refl
+meant octet d = refl
+meant number16 d = refl
+meant numbers16 d = refl
+meant unsigned32 d = refl
+meant signed32 d = refl
+meant text d = refl
+meant opaque d = refl
+
+-- ---- What a fault's number says of the data, for callers
+
+broken-by : (v : Value) (n : ℕ) → n ≡ numberOfFault v → (n ≡ 0 → ⊥) → v ≡ broken n
+broken-by (broken m) n e z = ap broken (sym e)
+broken-by (number k x) n e z = absurd (z e)
+broken-by (part k x) n e z = absurd (z e)
+
+pub fault-broken : (c : ℕ) (d : List ℕ) (n : ℕ) → n ≡ faultOf c d → (n ≡ 0 → ⊥) → kinds .value c d ≡ broken n
+unfolding faultOf
+fault-broken c d n e z = broken-by (kinds .value c d) n e z
+
+kept-by : (a b : Bool) (v : Value) → numberOfFault (cond a (cond b v (broken 9)) (broken 8)) ≡ 0 → cond a (cond b v (broken 9)) (broken 8) ≡ v
+kept-by true true v e = refl
+kept-by true false v e = absurd (omega arith)
+kept-by false b v e = absurd (omega arith)
+
+pub fault-kept : (c : ℕ) (k : Kind) (d : List ℕ) → kindOf c ≡ some k → faultOf c d ≡ 0 → kinds .value c d ≡ meaning k d
+unfolding faultOf judged
+fault-kept c k d o e = rw o (kept-by (lengthFits k c (length d)) (valueFits k c d) (meaning k d) (rw o at e))

@@ -1,0 +1,130 @@
+-- What a walk from place i on sees: of a text from its end, of numbers and of addresses from the start. Assumes nothing.
+use mathlib.Core.Path.{_≡_, refl, sym, ap, _∙_}
+use mathlib.Core.Bool.{true, false}
+use mathlib.Core.List.{List, [], _∷_, _++_}
+use Prim.Native.Nat.{ℕ, zero, suc, _+_, _-_, _≤_, _<_}
+use native.Mathlib.Nat.{add-zero}
+use native.Mathlib.Omega.{arith}
+use borrow.Author.Tests.{le-leb, lt-leb, eq-eqb, ne-eqb}
+use lib.ListN.{length, getD, take, drop, length-drop}
+use lib.Seq.{take-suc, length-take-le, getD-drop, drop-drop}
+use Rattle.options.specs.Kinds.{trimmed, longer, pair16, word32, first16, first32, numbersOf, addressesOf, rising, noZeroFirst}
+
+-- ---- The end of a text
+
+longer-suc : (x n : ℕ) → longer x (suc n) ≡ suc (suc n)
+longer-suc zero n = refl
+longer-suc (suc x) n = refl
+
+trim-zero : (xs : List ℕ) → trimmed (xs ++ (0 ∷ [])) ≡ trimmed xs
+unfolding trimmed
+trim-zero [] = refl
+trim-zero (x ∷ xs) = ap (longer x) (trim-zero xs)
+
+trim-end : (xs : List ℕ) (y : ℕ) → trimmed (xs ++ (suc y ∷ [])) ≡ suc (length xs)
+unfolding trimmed
+trim-end [] y = refl
+trim-end (x ∷ xs) y = ap (longer x) (trim-end xs y) ∙ longer-suc x (length xs)
+
+-- a zero at the end is left off
+pub trim-drop : (t : List ℕ) (k : ℕ) → 0 < k → k ≤ length t → getD t (k - 1) 0 ≡ 0 → trimmed (take (k - 1) t) ≡ trimmed (take k t)
+trim-drop t zero p h e = absurd (omega arith)
+trim-drop t (suc j) p h e =
+    let q : suc j - 1 ≡ j = omega arith in
+    let z : getD t j 0 ≡ 0 = rw q at e in
+    rw (q, take-suc t j 0 h, z) (sym (trim-zero (take j t)))
+
+-- any other byte ends the text
+pub trim-stop : (t : List ℕ) (k : ℕ) → 0 < k → k ≤ length t → (getD t (k - 1) 0 ≡ 0 → ⊥) → trimmed (take k t) ≡ k
+trim-stop t zero p h e = absurd (omega arith)
+trim-stop t (suc j) p h e =
+    let q : suc j - 1 ≡ j = omega arith in
+    rw (take-suc t j 0 h) (ends (getD t j 0) (λ z. e (rw q z)))
+  where
+    ends : (y : ℕ) → (y ≡ 0 → ⊥) → trimmed (take j t ++ (y ∷ [])) ≡ suc j
+    ends zero n = absurd (n refl)
+    ends (suc y) n = trim-end (take j t) y ∙ ap suc (length-take-le j t (omega arith))
+
+-- ---- The numbers and the addresses from i on
+
+numbers-none : (xs : List ℕ) → length xs < 2 → numbersOf xs ≡ []
+unfolding numbersOf
+numbers-none [] h = refl
+numbers-none (a ∷ []) h = refl
+numbers-none (a ∷ b ∷ xs) h = absurd (omega arith)
+
+numbers-head : (xs : List ℕ) → 2 ≤ length xs → numbersOf xs ≡ first16 xs ∷ numbersOf (drop 2 xs)
+unfolding numbersOf
+numbers-head [] h = absurd (omega arith)
+numbers-head (a ∷ []) h = absurd (omega arith)
+numbers-head (a ∷ b ∷ xs) h = refl
+
+addresses-none : (xs : List ℕ) → length xs < 4 → addressesOf xs ≡ []
+unfolding addressesOf
+addresses-none [] h = refl
+addresses-none (a ∷ []) h = refl
+addresses-none (a ∷ b ∷ []) h = refl
+addresses-none (a ∷ b ∷ c ∷ []) h = refl
+addresses-none (a ∷ b ∷ c ∷ d ∷ xs) h = absurd (omega arith)
+
+addresses-head : (xs : List ℕ) → 4 ≤ length xs → addressesOf xs ≡ first32 xs ∷ addressesOf (drop 4 xs)
+unfolding addressesOf
+addresses-head [] h = absurd (omega arith)
+addresses-head (a ∷ []) h = absurd (omega arith)
+addresses-head (a ∷ b ∷ []) h = absurd (omega arith)
+addresses-head (a ∷ b ∷ c ∷ []) h = absurd (omega arith)
+addresses-head (a ∷ b ∷ c ∷ d ∷ xs) h = refl
+
+zero-first : (x : ℕ) (xs : List ℕ) → x ≡ 0 → noZeroFirst (x ∷ xs) ≡ false
+unfolding noZeroFirst
+zero-first x [] h = rw (eq-eqb x 0 h)
+zero-first x (y ∷ xs) h = rw (eq-eqb x 0 h)
+
+module _ (f : List ℕ) (i : ℕ) where
+  abbrev pub half : ℕ
+  half = pair16 (getD f i 0) (getD f (i + 1) 0)
+
+  abbrev pub whole : ℕ
+  whole = word32 (getD f i 0) (getD f (i + 1) 0) (getD f (i + 2) 0) (getD f (i + 3) 0)
+
+  left : length (drop i f) ≡ length f - i
+  left = length-drop i f
+
+  numbers-next : 2 ≤ length f - i → numbersOf (drop i f) ≡ half ∷ numbersOf (drop (i + 2) f)
+  numbers-next g = numbers-head (drop i f) (omega (arith, left)) ∙ simp (getD-drop, drop-drop, add-zero)
+
+  addresses-next : 4 ≤ length f - i → addressesOf (drop i f) ≡ whole ∷ addressesOf (drop (i + 4) f)
+  addresses-next g = addresses-head (drop i f) (omega (arith, left)) ∙ simp (getD-drop, drop-drop, add-zero)
+
+  -- the rest never falls, the first at least p
+  module _ (p : ℕ) where
+    pub rise-end : length f - i < 2 → rising p (numbersOf (drop i f)) ≡ true
+    unfolding rising
+    rise-end h = rw (numbers-none (drop i f) (omega (arith, left)))
+
+    pub rise-falls : 2 ≤ length f - i → half < p → rising p (numbersOf (drop i f)) ≡ false
+    unfolding rising
+    rise-falls g h = rw (numbers-next g, lt-leb p half h)
+
+    pub rise-next : 2 ≤ length f - i → p ≤ half → rising p (numbersOf (drop i f)) ≡ rising half (numbersOf (drop (i + 2) f))
+    unfolding rising
+    rise-next g h = rw (numbers-next g, le-leb p half h)
+
+  -- no first address of the pairs of the rest is 0
+  pub first-end : length f - i < 4 → noZeroFirst (addressesOf (drop i f)) ≡ true
+  unfolding noZeroFirst
+  first-end h = rw (addresses-none (drop i f) (omega (arith, left)))
+
+  pub first-zero : 4 ≤ length f - i → whole ≡ 0 → noZeroFirst (addressesOf (drop i f)) ≡ false
+  first-zero g h = rw (addresses-next g) (zero-first whole (addressesOf (drop (i + 4) f)) h)
+
+  pub first-last : 4 ≤ length f - i → length f - i < 8 → (whole ≡ 0 → ⊥) → noZeroFirst (addressesOf (drop i f)) ≡ true
+  unfolding noZeroFirst
+  first-last g l h = rw (addresses-next g, addresses-none (drop (i + 4) f) (omega (arith, length-drop (i + 4) f)), ne-eqb whole 0 h)
+
+pub first-next : (f : List ℕ) (i : ℕ) → 8 ≤ length f - i → (whole f i ≡ 0 → ⊥)
+    → noZeroFirst (addressesOf (drop i f)) ≡ noZeroFirst (addressesOf (drop (i + 8) f))
+unfolding noZeroFirst
+first-next f i g h =
+    let e : i + 4 + 4 ≡ i + 8 = omega arith in
+    rw (addresses-next f i (omega arith), addresses-next f (i + 4) (omega arith), ne-eqb (whole f i) 0 h, e)

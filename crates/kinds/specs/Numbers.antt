@@ -1,0 +1,48 @@
+-- THE KINDS AS NUMBERS: 1 to 11 in the order of document 01's table, 0 for a code without a row; and the number of a fault, 8 or 9, or 0 for none.
+-- Assumes nothing.
+use mathlib.Core.List.{List}
+use mathlib.Core.Bool.{cond}
+use mathlib.Core.Option.{Option, none, some}
+use Prim.Native.Nat.{ℕ}
+use lib.Dec.{eqb}
+use Rattle.options.specs.Kinds.{Kind, address, addresses, pairs, flag, octet, number16, numbers16, unsigned32, signed32, text, opaque, Value, broken, number, part, kinds}
+
+abbrev pub numberOf : Kind → ℕ
+numberOf address = 1
+numberOf addresses = 2
+numberOf pairs = 3
+numberOf flag = 4
+numberOf octet = 5
+numberOf number16 = 6
+numberOf numbers16 = 7
+numberOf unsigned32 = 8
+numberOf signed32 = 9
+numberOf text = 10
+numberOf opaque = 11
+
+abbrev pub kindNumber : Option Kind → ℕ
+kindNumber none = 0
+kindNumber (some k) = numberOf k
+
+-- the kind with a number; opaque for a number that no kind has
+abbrev pub kindAt : ℕ → Kind
+kindAt n =
+    cond (eqb n 1) address
+    (cond (eqb n 2) addresses
+    (cond (eqb n 3) pairs
+    (cond (eqb n 4) flag
+    (cond (eqb n 5) octet
+    (cond (eqb n 6) number16
+    (cond (eqb n 7) numbers16
+    (cond (eqb n 8) unsigned32
+    (cond (eqb n 9) signed32
+    (cond (eqb n 10) text opaque)))))))))
+
+abbrev pub numberOfFault : Value → ℕ
+numberOfFault (broken n) = n
+numberOfFault (number k z) = 0
+numberOfFault (part k n) = 0
+
+-- "8: length breaks the kind. 9: value breaks the kind": how the data d breaks the row of the code c, or 0
+unfoldable pub faultOf : ℕ → List ℕ → ℕ
+faultOf c d = numberOfFault (kinds .value c d)

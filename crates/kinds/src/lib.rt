@@ -1,0 +1,340 @@
+// The kinds of options (document 01, The kinds, by code): the kind of a code, the rules of length and of value, the numbers in the data.
+ghost use mathlib.Core.Path.{_≡_};
+ghost use mathlib.Core.List.{[], _∷_};
+ghost use Prim.Native.Nat.{_<_};
+ghost use lib.Dec.{leb};
+ghost use lib.ListN.{getD};
+ghost use Rattle.options.specs.Reading.{among};
+ghost use Rattle.options.specs.Kinds.{kindOf, both, multiples, isLength, lengthFits, pair16, word32, first16, first32, twosComplement, addressesOf, numbersOf, octetFits, number16Fits, rising, noZeroFirst, valueFits, trimmed};
+ghost use Rattle.kinds.specs.Numbers.{kindNumber, kindAt, faultOf};
+
+// The kinds as numbers (document 01, The kinds): its rows in their order, and 0 for a code that has none.
+pub const NO_ROW: u8 = 0;
+
+pub const ADDRESS: u8 = 1;
+
+pub const ADDRESSES: u8 = 2;
+
+pub const PAIRS: u8 = 3;
+
+pub const FLAG: u8 = 4;
+
+pub const OCTET: u8 = 5;
+
+pub const NUMBER16: u8 = 6;
+
+pub const NUMBERS16: u8 = 7;
+
+pub const UNSIGNED32: u8 = 8;
+
+pub const SIGNED32: u8 = 9;
+
+pub const TEXT: u8 = 10;
+
+pub const OPAQUE: u8 = 11;
+
+// The kind of each code up to 76; later codes have no row.
+const KINDS: [u8; 77] = [
+    NO_ROW, // 0
+    ADDRESS, // 1
+    SIGNED32, // 2
+    ADDRESSES, // 3
+    ADDRESSES, // 4
+    ADDRESSES, // 5
+    ADDRESSES, // 6
+    ADDRESSES, // 7
+    ADDRESSES, // 8
+    ADDRESSES, // 9
+    ADDRESSES, // 10
+    ADDRESSES, // 11
+    TEXT, // 12
+    NUMBER16, // 13
+    TEXT, // 14
+    TEXT, // 15
+    ADDRESS, // 16
+    TEXT, // 17
+    TEXT, // 18
+    FLAG, // 19
+    FLAG, // 20
+    PAIRS, // 21
+    NUMBER16, // 22
+    OCTET, // 23
+    UNSIGNED32, // 24
+    NUMBERS16, // 25
+    NUMBER16, // 26
+    FLAG, // 27
+    ADDRESS, // 28
+    FLAG, // 29
+    FLAG, // 30
+    FLAG, // 31
+    ADDRESS, // 32
+    PAIRS, // 33
+    FLAG, // 34
+    UNSIGNED32, // 35
+    FLAG, // 36
+    OCTET, // 37
+    UNSIGNED32, // 38
+    FLAG, // 39
+    TEXT, // 40
+    ADDRESSES, // 41
+    ADDRESSES, // 42
+    OPAQUE, // 43
+    ADDRESSES, // 44
+    ADDRESSES, // 45
+    OCTET, // 46
+    OPAQUE, // 47
+    ADDRESSES, // 48
+    ADDRESSES, // 49
+    ADDRESS, // 50
+    UNSIGNED32, // 51
+    OCTET, // 52
+    OCTET, // 53
+    ADDRESS, // 54
+    OPAQUE, // 55
+    TEXT, // 56
+    NUMBER16, // 57
+    UNSIGNED32, // 58
+    UNSIGNED32, // 59
+    OPAQUE, // 60
+    OPAQUE, // 61
+    NO_ROW, // 62
+    NO_ROW, // 63
+    TEXT, // 64
+    ADDRESSES, // 65
+    TEXT, // 66
+    TEXT, // 67
+    ADDRESSES, // 68
+    ADDRESSES, // 69
+    ADDRESSES, // 70
+    ADDRESSES, // 71
+    ADDRESSES, // 72
+    ADDRESSES, // 73
+    ADDRESSES, // 74
+    ADDRESSES, // 75
+    ADDRESSES, // 76
+];
+
+// The kind of the code c, as a number (document 01, The kinds).
+pub fn kind(c: u8) -> u8
+    ensures { λ r. ⌜ r ≡ kindNumber (kindOf c) ⌝ }
+{
+    byte(&KINDS, c as usize)
+}
+
+// The byte at i, or 0 past the end: what a number in data is made of (document 01, The kinds).
+pub fn byte(m: &[u8], i: usize) -> u8
+    ensures { λ r. ⌜ r ≡ getD (now (m .entry)) i 0 ⌝ }
+{
+    if i < m.len() { m[i] } else { 0 }
+}
+
+// A 16-bit number, the high byte first (document 01, The message and its fields).
+pub fn be16(a: u8, b: u8) -> u16
+    ensures { λ r. ⌜ r ≡ pair16 a b ⌝ }
+{
+    (a as u16) * 256 + (b as u16)
+}
+
+// A 32-bit number, the high byte first (document 01, The message and its fields).
+pub fn be32(a: u8, b: u8, c: u8, d: u8) -> u32
+    ensures { λ r. ⌜ r ≡ word32 a b c d ⌝ }
+{
+    (a as u32) * 16777216 + (b as u32) * 65536 + (c as u32) * 256 + (d as u32)
+}
+
+// The 16-bit number that d begins with (document 01, The kinds); bytes that are missing count as 0.
+pub fn first16(d: &[u8]) -> u16
+    ensures { λ r. ⌜ r ≡ first16 (now (d .entry)) ⌝ }
+{
+    be16(byte(d, 0), byte(d, 1))
+}
+
+// The 32-bit number that d begins with (document 01, The kinds); bytes that are missing count as 0.
+pub fn first32(d: &[u8]) -> u32
+    ensures { λ r. ⌜ r ≡ first32 (now (d .entry)) ⌝ }
+{
+    be32(byte(d, 0), byte(d, 1), byte(d, 2), byte(d, 3))
+}
+
+// The number whose two's complement is w (document 01, The kinds: signed 32-bit). No step leaves the range of i32.
+pub fn signed(w: u32) -> i32
+    ensures { λ r. ⌜ r ≡ twosComplement w ⌝ }
+{
+    if w < 2147483648 {
+        w as i32
+    } else {
+        let k = (4294967295 - w) as i32;
+        -1 - k
+    }
+}
+
+// The length of a text without its trailing zeros (document 01, The kinds).
+pub fn text_len(t: &[u8]) -> usize
+    ensures { λ r. ⌜ r ≡ trimmed (now (t .entry)) ⌝ }
+{
+    let mut k = t.len();
+    while 0 < k {
+        let i = k - 1;
+        if t[i] != 0 {
+            return k;
+        }
+        k = i;
+    }
+    0
+}
+
+// How the data d breaks the row of the code c (document 01, The kinds, and Numbers given on refusal): 8 by its length, 9 by its value, and 0 where it
+// doesn't or there is no row.
+pub fn fault(c: u8, d: &[u8]) -> u8
+    ensures { λ r. ⌜ r ≡ faultOf c (now (d .entry)) ⌝ }
+{
+    let k = kind(c);
+    if k == NO_ROW {
+        return 0;
+    }
+    if !length_fits(k, c, d.len()) {
+        return 8;
+    }
+    if !value_fits(k, c, d) {
+        return 9;
+    }
+    0
+}
+
+// The rule of length of the kind k; 68 may also have length 0, and 61 has at least 2.
+fn length_fits(k: u8, c: u8, n: usize) -> bool
+    ensures { λ r. ⌜ r ≡ lengthFits (kindAt k) c n ⌝ }
+{
+    match k {
+        ADDRESS => n == 4,
+        ADDRESSES => {
+            if c == 68 {
+                return stepped(n, 0, 4);
+            }
+            stepped(n, 4, 4)
+        }
+        PAIRS => stepped(n, 8, 8),
+        FLAG => n == 1,
+        OCTET => n == 1,
+        NUMBER16 => n == 2,
+        NUMBERS16 => stepped(n, 2, 2),
+        UNSIGNED32 => n == 4,
+        SIGNED32 => n == 4,
+        TEXT => stepped(n, 1, 1),
+        _ => {
+            if c == 61 {
+                return stepped(n, 2, 1);
+            }
+            stepped(n, 1, 1)
+        }
+    }
+}
+
+// Whether n is at least `least`, and a multiple of `unit`.
+fn stepped(n: usize, least: usize, unit: usize) -> bool
+    requires { ⌜ 0 < unit ⌝ }
+    ensures { λ r. ⌜ r ≡ isLength (multiples least unit) n ⌝ }
+{
+    if n < least {
+        return false;
+    }
+    n % unit == 0
+}
+
+// The rule of value of the kind k; many kinds have none.
+fn value_fits(k: u8, c: u8, d: &[u8]) -> bool
+    ensures { λ r. ⌜ r ≡ valueFits (kindAt k) c (now (d .entry)) ⌝ }
+{
+    match k {
+        PAIRS => {
+            if c == 33 {
+                return destinations_fit(d);
+            }
+            true
+        }
+        FLAG => byte(d, 0) <= 1,
+        OCTET => octet_fits(c, byte(d, 0)),
+        NUMBER16 => number_fits(c, first16(d)),
+        NUMBERS16 => never_falling(d),
+        _ => true,
+    }
+}
+
+// 46: 1, 2, 4 or 8; 52: 1 to 3; 53: 1 to 8; 23 and 37: 1 to 255.
+fn octet_fits(c: u8, v: u8) -> bool
+    ensures { λ r. ⌜ r ≡ octetFits c v ⌝ }
+{
+    match c {
+        46 => one_of_four(v),
+        52 => from_one(v, 3),
+        53 => from_one(v, 8),
+        _ => from_one(v, 255),
+    }
+}
+
+fn one_of_four(v: u8) -> bool
+    ensures { λ r. ⌜ r ≡ among v (1 ∷ 2 ∷ 4 ∷ 8 ∷ []) ⌝ }
+{
+    match v {
+        1 => true,
+        2 => true,
+        4 => true,
+        8 => true,
+        _ => false,
+    }
+}
+
+fn from_one(v: u8, most: u8) -> bool
+    ensures { λ r. ⌜ r ≡ both (leb 1 v) (leb v most) ⌝ }
+{
+    if v < 1 {
+        return false;
+    }
+    v <= most
+}
+
+// 22 and 57: at least 576; 26: at least 68; 13: any.
+fn number_fits(c: u8, v: u16) -> bool
+    ensures { λ r. ⌜ r ≡ number16Fits c v ⌝ }
+{
+    match c {
+        22 => 576 <= v,
+        57 => 576 <= v,
+        26 => 68 <= v,
+        _ => true,
+    }
+}
+
+// 25: whether the 16-bit numbers of d are each at least 68 and never fall. A number is held to the one before it, the first to 68.
+fn never_falling(d: &[u8]) -> bool
+    ensures { λ r. ⌜ r ≡ rising 68 (numbersOf (now (d .entry))) ⌝ }
+{
+    let mut least: u16 = 68;
+    let mut i: usize = 0;
+    while 2 <= d.len() - i {
+        let v = be16(d[i], d[i + 1]);
+        if v < least {
+            return false;
+        }
+        least = v;
+        i = i + 2;
+    }
+    true
+}
+
+// 33: whether no destination, the first address of each pair, is 0.0.0.0.
+fn destinations_fit(d: &[u8]) -> bool
+    ensures { λ r. ⌜ r ≡ noZeroFirst (addressesOf (now (d .entry))) ⌝ }
+{
+    let mut i: usize = 0;
+    while 4 <= d.len() - i {
+        if be32(d[i], d[i + 1], d[i + 2], d[i + 3]) == 0 {
+            return false;
+        }
+        if d.len() - i < 8 {
+            return true;
+        }
+        i = i + 8;
+    }
+    true
+}

@@ -1,0 +1,115 @@
+-- `message::scan` meets its contract. Assumes nothing.
+use borrow.Author.Needs.{needs}
+use mathlib.Core.Path.{sym, _∙_}
+use native.Mathlib.Omega.{arith}
+use borrow.Author.Tests.{not-true, not-false}
+use Rattle.options.specs.KindClaims.{AllBytes}
+use Rattle.message.proofs.Laws.{take-rest}
+use Rattle.message.proofs.Bridge.{all-bytes, scan-short, scan-long, scan-cookie, scan-fields}
+use Rattle.message.proofs.scan.Statement.{statement}
+use Rattle.message.proofs.scan.Tie as tie
+
+stop-requires : tie.Need-stop-requires
+stop-requires c κs = search needs
+
+returns : tie.Need-returns
+returns c = c .stop .ensures ∙ scan-short (c .before .before .before .args .want) (c .before .before .before .args .m .now) (c .before .if1 .taken)
+
+stop-requires-2 : tie.Need-stop-requires-2
+stop-requires-2 c κs = search needs
+
+returns-2 : tie.Need-returns-2
+returns-2 c = c .stop2 .ensures ∙ scan-long (c .before .before .before .before .args .want) (c .before .before .before .before .args .m .now) (c .before .before .if1 .left) (c .before .if2 .taken)
+
+cookie-ok-requires : tie.Need-cookie-ok-requires
+cookie-ok-requires c κs = search needs
+
+stop-requires-3 : tie.Need-stop-requires-3
+stop-requires-3 c κs = search needs
+
+returns-3 : tie.Need-returns-3
+returns-3 c =
+    let s = c .before .before .before .before .before .before in
+    c .stop3 .ensures ∙ scan-cookie (s .args .want) (s .args .m .now) (c .before .before .before .before .if1 .left) (c .before .before .before .if2 .left) (sym (c .before .before .cookie-ok .ensures) ∙ not-true (c .before .before .cookie-ok .result) (c .before .if3 .taken))
+
+sub-walk : tie.Need-sub-walk
+sub-walk c = search needs
+
+part-walk-start : tie.Need-part-walk-start
+part-walk-start c = search needs
+
+part-walk-end : tie.Need-part-walk-end
+part-walk-end c = search needs
+
+fresh-requires : tie.Need-fresh-requires
+fresh-requires c κs = search needs
+
+walk-requires : tie.Need-walk-requires
+walk-requires c κs = search needs
+
+file-on-requires : tie.Need-file-on-requires
+file-on-requires c κs = search needs
+
+sub-walk-if : tie.Need-sub-walk-if
+sub-walk-if c = search needs
+
+part-walk-if-start : tie.Need-part-walk-if-start
+part-walk-if-start c = search needs
+
+part-walk-if-end : tie.Need-part-walk-if-end
+part-walk-if-end c = search needs
+
+walk-if-requires : tie.Need-walk-if-requires
+walk-if-requires c κs = (omega (arith, c .before .before .before .walk .ensures .room), search needs)
+
+sname-on-requires : tie.Need-sname-on-requires
+sname-on-requires c κs = search needs
+
+sub-walk-if-2 : tie.Need-sub-walk-if-2
+sub-walk-if-2 c = search needs
+
+part-walk-if-start-2 : tie.Need-part-walk-if-start-2
+part-walk-if-start-2 c = search needs
+
+part-walk-if-end-2 : tie.Need-part-walk-if-end-2
+part-walk-if-end-2 c = search needs
+
+walk-if-requires-2 : tie.Need-walk-if-requires-2
+walk-if-requires-2 c κs = (omega (arith, c .before .before .walk-if .ensures .room, c .before .before .before .before .before .before .walk .ensures .room), search needs)
+
+returns-4 : tie.Need-returns-4
+returns-4 c =
+    let s = c .before .before .before .before .before .before .before .before .before .before .before .before .before .before .before in
+    let a = s .args in
+    let m = a .m .now in
+    let k : AllBytes m = all-bytes m (λ i. c .before .before .before .before .before .before .before .before .before .before .before .before .before .before .shared-slice-known .given i .fits) in
+    rw (c .walk-if2 .ensures .is, c .before .before .sname-on .ensures, c .before .before .before .walk-if .ensures .is, c .before .before .before .before .before .file-on .ensures, c .before .before .before .before .before .before .before .walk .ensures .is, c .before .before .before .before .before .before .before .before .fresh .ensures, take-rest m 240)
+    (scan-fields (a .want) m k (c .before .before .before .before .before .before .before .before .before .before .before .before .before .if1 .left) (c .before .before .before .before .before .before .before .before .before .before .before .before .if2 .left) (sym (c .before .before .before .before .before .before .before .before .before .before .before .cookie-ok .ensures) ∙ not-false (c .before .before .before .before .before .before .before .before .before .before .before .cookie-ok .result) (c .before .before .before .before .before .before .before .before .before .before .if3 .left)))
+
+pub scan-spec : {M : Type 1} → statement M
+scan-spec =
+    tie.close
+    (tie.spec
+    stop-requires
+    returns
+    stop-requires-2
+    returns-2
+    cookie-ok-requires
+    stop-requires-3
+    returns-3
+    sub-walk
+    part-walk-start
+    part-walk-end
+    fresh-requires
+    walk-requires
+    file-on-requires
+    sub-walk-if
+    part-walk-if-start
+    part-walk-if-end
+    walk-if-requires
+    sname-on-requires
+    sub-walk-if-2
+    part-walk-if-start-2
+    part-walk-if-end-2
+    walk-if-requires-2
+    returns-4)

@@ -1,0 +1,42 @@
+-- `message::walk_if` meets its contract. Assumes nothing.
+use borrow.Author.Needs.{needs}
+use mathlib.Core.Path.{refl}
+use native.Mathlib.Omega.{arith}
+use borrow.Author.Tests.{not-true, not-false}
+use Rattle.message.specs.Scan.{walkIf}
+use Rattle.message.proofs.walk_if.Statement.{statement}
+use Rattle.message.proofs.walk_if.Tie as tie
+
+returns : tie.Need-returns
+unfolding walkIf
+returns c = record { is = rw (not-true (c .before .before .args .on) (c .if1 .taken)) refl; room = omega arith }
+
+enum-told : tie.Need-enum-told
+enum-told c = search needs
+
+enum-told-2 : tie.Need-enum-told-2
+enum-told-2 c = search needs
+
+walk-requires : tie.Need-walk-requires
+walk-requires c κs = search needs
+
+join-requires : tie.Need-join-requires
+join-requires c κs = search needs
+
+returns-2 : tie.Need-returns-2
+unfolding walkIf
+returns-2 c = record { is = rw (not-false (c .before .before .before .before .args .on) (c .before .before .if1 .left), c .enum-told .given .1) refl; room = omega arith }
+
+returns-3 : tie.Need-returns-3
+unfolding walkIf
+returns-3 c =
+    let s = c .before .before .before .before .before .before .before in
+    record {
+      is = rw (not-false (c .before .before .before .before .before .before .before .args .on) (c .before .before .before .before .before .if1 .left), c .before .before .before .enum-told2 .given .1, ← c .before .walk .ensures .is) (c .join .ensures .0);
+      room = omega (arith, c .join .ensures .1, c .before .walk .ensures .room);
+    }
+
+pub walk-if-spec : {M : Type 1} → statement M
+walk-if-spec =
+    tie.close
+    (tie.spec returns enum-told enum-told-2 walk-requires join-requires returns-2 returns-3)

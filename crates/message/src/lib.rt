@@ -1,0 +1,114 @@
+// One walk over a whole message (document 01, The message and its fields): the length and the cookie, then options, file and sname.
+ghost use mathlib.Core.Path.{_≡_};
+ghost use Prim.Native.Nat.{_+_, _*_, _≤_};
+ghost use lib.ListN.{length, take, drop};
+ghost use Rattle.options.specs.Message.{cookie};
+ghost use Rattle.options.specs.Reading.{same, fileIn, snameIn};
+ghost use Rattle.wire.specs.Walk.{fieldOf};
+ghost use Rattle.message.specs.Scan.{scanOf, joined, walkIf, Grown};
+
+use wire::End;
+use wire::Field;
+use wire::State;
+use wire::Walked;
+
+// The len bytes from start on, or those of them that there are.
+pub fn part(m: &[u8], start: usize, len: usize) -> &[u8]
+    ensures { λ r. ⌜ now r ≡ take len (drop start (now (m .entry))) ⌝ }
+{
+    if m.len() <= start {
+        return &m[..0];
+    }
+    if m.len() - start <= len {
+        return &m[start..];
+    }
+    let e = start + len;
+    &m[start..e]
+}
+
+fn cookie_ok(m: &[u8]) -> bool
+    requires { ⌜ 240 ≤ length (now m) ⌝ }
+    ensures { λ r. ⌜ r ≡ same (take 4 (drop 236 (now (m .entry)))) cookie ⌝ }
+{
+    if m[236] != 99 {
+        return false;
+    }
+    if m[237] != 130 {
+        return false;
+    }
+    if m[238] != 83 {
+        return false;
+    }
+    if m[239] != 99 {
+        return false;
+    }
+    true
+}
+
+// Whether file is active, by the value of option 52.
+pub fn file_on(v: u8) -> bool
+    ensures { λ r. ⌜ r ≡ fileIn v ⌝ }
+{
+    v == 1 || v == 3
+}
+
+// Whether sname is active, by the value of option 52.
+pub fn sname_on(v: u8) -> bool
+    ensures { λ r. ⌜ r ≡ snameIn v ⌝ }
+{
+    v == 2 || v == 3
+}
+
+// A walk's result, on top of records that take `size` bytes already.
+fn join(size: usize, r: Walked) -> Walked
+    requires { ⌜ (size ≤ 65536) × (r .size ≤ 65536) ⌝ }
+    ensures { λ w. ⌜ (w ≡ joined size r) × (w .size ≤ size + r .size) ⌝ }
+{
+    let e = r.end;
+    match e {
+        End::Fault { number: _, place: _ } => r,
+        End::Closed => {
+            let s = r.state;
+            Walked { state: s, size: size + r.size, end: End::Closed }
+        }
+    }
+}
+
+// Walks a further field, where it is active and nothing was refused before.
+fn walk_if(on: bool, field: Field, f: &[u8], want: u8, w: Walked) -> Walked
+    requires { ⌜ (w .size ≤ 8192) × (length (now f) ≤ 8192) ⌝ }
+    ensures { λ r. ⌜ Grown w (now (f .entry)) (walkIf on (fieldOf field) want (now (f .entry)) w) r ⌝ }
+{
+    if !on {
+        return w;
+    }
+    let e = w.end;
+    match e {
+        End::Fault { number: _, place: _ } => w,
+        End::Closed => {
+            let s = w.state;
+            join(w.size, wire::walk(field, f, want, s))
+        }
+    }
+}
+
+// Walks the message once: what is kept of its options, the code wanted among them, or the refusal.
+pub fn scan(m: &[u8], want: u8) -> Walked
+    ensures { λ r. ⌜ r ≡ scanOf want (now (m .entry)) ⌝ }
+{
+    let n = m.len();
+    if n < 240 {
+        return wire::stop(1, n);
+    }
+    if 1472 < n {
+        return wire::stop(2, n);
+    }
+    if !cookie_ok(m) {
+        return wire::stop(3, 236);
+    }
+    let a = wire::walk(Field::Options, &m[240..], want, wire::fresh());
+    let s = a.state;
+    let v = s.over;
+    let b = walk_if(file_on(v), Field::File, &m[108..236], want, a);
+    walk_if(sname_on(v), Field::Sname, &m[44..108], want, b)
+}

@@ -167,43 +167,50 @@ unfolding seenAfter items
 seen-append seen [] ps = refl
 seen-append seen (o ∷ os) ps = seen-append (o .item .tag ∷ seen) os ps
 
--- r is what a walk keeps of the reading w
-pub record Kept (want : ℕ) (os : List Opt) (r : Walked) : Type 0 where
+-- r is what a walk keeps of the reading w, option 52 being v (0: none)
+pub record Kept (want v : ℕ) (os : List Opt) (r : Walked) : Type 0 where
   pub is : r ≡ scanIn want (accepted os)
   pub marks : Marks (keptAll want noState os .seen) (seenAfter [] (items os))
+  pub over : keptAll want noState os .over ≡ v
 
-abbrev pub Scans : ℕ → Reading → Walked → Type 0
-Scans want (refused n p) r = r ≡ stopped n p
-Scans want (accepted os) r = Kept want os r
+abbrev pub Scans : ℕ → ℕ → Reading → Walked → Type 0
+Scans want v (refused n p) r = r ≡ stopped n p
+Scans want v (accepted os) r = Kept want v os r
 
-scans-is : (want : ℕ) (w : Reading) (r : Walked) → Scans want w r → r ≡ scanIn want w
-scans-is want (refused n p) r h = h
-scans-is want (accepted os) r h = h .is
+scans-is : (want v : ℕ) (w : Reading) (r : Walked) → Scans want v w r → r ≡ scanIn want w
+scans-is want v (refused n p) r h = h
+scans-is want v (accepted os) r h = h .is
 
-module _ (fd : Field) (want : ℕ) (m : List ℕ) (b : AllBytes m) where
-  after : (os : List Opt) (w : Reading) → Walked-as fd want (keptAll want noState os) 0 (seenAfter [] (items os)) (parse 0 0 (bytes fd m)) w
-      → Scans want (join os w) (joined (roomOf (items os)) (walkField fd want (keptAll want noState os) (bytes fd m)))
+module _ (fd : Field) (want v : ℕ) (m : List ℕ) (b : AllBytes m) where
+  after : (os : List Opt) (w : Reading) → eqb v 0 ≡ false → keptAll want noState os .over ≡ v
+      → Walked-as fd want (keptAll want noState os) 0 (seenAfter [] (items os)) (parse 0 0 (bytes fd m)) w
+      → Scans want v (join os w) (joined (roomOf (items os)) (walkField fd want (keptAll want noState os) (bytes fd m)))
   unfolding walkField
-  after os (refused n p) h = rw h
-  after os (accepted ps) h =
+  after os (refused n p) e o h = rw h
+  after os (accepted ps) e o h =
       record {
         is = rw (h .is)
             (ap₂ (λ (s : State) (k : ℕ). record { state = s; size = k; end = Closed }) (kept-append want noState os ps) (room-append os ps));
         marks = rw (← kept-append want noState os ps, ← seen-append [] os ps) (h .marks);
+        over = ap (λ (s : State). s .over) (sym (kept-append want noState os ps)) ∙ h .over ∙ rw (o, e);
       }
 
-  scans-more : (on : Bool) (w : Reading) (r : Walked) → Scans want w r → Scans want (extend on fd m w) (walkIf on fd want (bytes fd m) r)
+  scans-more : (on : Bool) (w : Reading) (r : Walked) → (on ≡ true → eqb v 0 ≡ false) → Scans want v w r → Scans want v (extend on fd m w) (walkIf on fd want (bytes fd m) r)
   unfolding walkIf
-  scans-more false w r h = h
-  scans-more true (refused n p) r h = rw h
-  scans-more true (accepted os) r h =
+  scans-more false w r e h = h
+  scans-more true (refused n p) r e h = rw h
+  scans-more true (accepted os) r e h =
       rw (h .is)
-      (after os (judge fd (seenAfter [] (items os)) (parse 0 0 (bytes fd m)))
+      (after os (judge fd (seenAfter [] (items os)) (parse 0 0 (bytes fd m))) (e refl) (h .over)
       (walk-judged fd want (keptAll want noState os) 0 (seenAfter [] (items os)) (parse 0 0 (bytes fd m)) (h .marks) (parse-small 0 0 (bytes fd m) (all-field fd m b))))
 
--- the options field, and the value of option 52
+-- the options field alone
+unfoldable pub firstField : List ℕ → Reading
+firstField m = join [] (judge options [] (parse 0 0 (drop 240 m)))
+
 first-scans : (want : ℕ) (m : List ℕ) (w : Reading) → Walked-as options want noState 0 [] (parse 0 0 (drop 240 m)) w
-    → Scans want (join [] w) (walkField options want noState (drop 240 m)) × (walkField options want noState (drop 240 m) .state .over ≡ overloadOf (join [] w))
+    → Scans want (overloadOf (join [] w)) (join [] w) (walkField options want noState (drop 240 m))
+    × (walkField options want noState (drop 240 m) .state .over ≡ overloadOf (join [] w))
 unfolding walkField roomOf keptAll items seenAfter
 first-scans want m (refused n p) h = (h, ap (λ (x : Walked). x .state .over) h)
 first-scans want m (accepted os) h = (
@@ -211,23 +218,41 @@ first-scans want m (accepted os) h = (
     is = h .is
         ∙ ap (λ (k : ℕ). record { state = keptAll want noState os; size = k; end = Closed }) (let z : 0 + roomOf (items os) ≡ roomOf (items os) = omega arith in z);
     marks = h .marks;
+    over = h .over;
   },
   ap (λ (x : Walked). x .state .over) (h .is) ∙ h .over,
 )
+
+-- a field is active only where option 52 is not 0
+file-over : (v : ℕ) → fileIn v ≡ true → eqb v 0 ≡ false
+file-over zero e = absurd (let z : _≡_ {A = ℕ} 0 1 = cc in omega arith)
+file-over (suc v) e = ne-eqb (suc v) 0 (omega arith)
+
+sname-over : (v : ℕ) → snameIn v ≡ true → eqb v 0 ≡ false
+sname-over zero e = absurd (let z : _≡_ {A = ℕ} 0 1 = cc in omega arith)
+sname-over (suc v) e = ne-eqb (suc v) 0 (omega arith)
 
 -- what the code gives, once the length and the cookie are right
 abbrev pub walked : ℕ → List ℕ → Walked → Walked
 walked want m a = walkIf (snameIn (a .state .over)) sname want (bytes sname m) (walkIf (fileIn (a .state .over)) file want (bytes file m) a)
 
-fields-scan : (want : ℕ) (m : List ℕ) → AllBytes m → walked want m (walkField options want noState (drop 240 m)) ≡ scanIn want (allFields m)
-unfolding allFields items seenAfter walkField
-fields-scan want m b =
-    let w : Reading = judge options [] (parse 0 0 (drop 240 m)) in
-    let f = first-scans want m w (walk-judged options want noState 0 [] (parse 0 0 (drop 240 m)) marks-none (parse-small 0 0 (drop 240 m) (all-field options m b))) in
-    rw (f .1)
-    (scans-is want (further m (join [] w)) (walkIf (snameIn (overloadOf (join [] w))) sname want (bytes sname m) (walkIf (fileIn (overloadOf (join [] w))) file want (bytes file m) (walkField options want noState (drop 240 m))))
-    (scans-more sname want m b (snameIn (overloadOf (join [] w))) (extend (fileIn (overloadOf (join [] w))) file m (join [] w)) (walkIf (fileIn (overloadOf (join [] w))) file want (bytes file m) (walkField options want noState (drop 240 m)))
-    (scans-more file want m b (fileIn (overloadOf (join [] w))) (join [] w) (walkField options want noState (drop 240 m)) (f .0))))
+module _ (want : ℕ) (m : List ℕ) (b : AllBytes m) where
+  abbrev v : ℕ
+  v = overloadOf (firstField m)
+
+  first-is : Scans want v (firstField m) (walkField options want noState (drop 240 m)) × (walkField options want noState (drop 240 m) .state .over ≡ v)
+  unfolding firstField
+  first-is =
+      first-scans want m (judge options [] (parse 0 0 (drop 240 m)))
+      (walk-judged options want noState 0 [] (parse 0 0 (drop 240 m)) marks-none (parse-small 0 0 (drop 240 m) (all-field options m b)))
+
+  pub all-scanned : Scans want v (allFields m) (walked want m (walkField options want noState (drop 240 m)))
+  unfolding allFields firstField items seenAfter
+  all-scanned =
+      let a : Walked = walkField options want noState (drop 240 m) in
+      subst (λ (x : ℕ). Scans want v (allFields m) (walkIf (snameIn x) sname want (bytes sname m) (walkIf (fileIn x) file want (bytes file m) a))) (sym (first-is .1))
+      (scans-more sname want v m b (snameIn v) (extend (fileIn v) file m (firstField m)) (walkIf (fileIn v) file want (bytes file m) a) (sname-over v)
+      (scans-more file want v m b (fileIn v) (firstField m) a (file-over v) (first-is .0)))
 
 module _ (want : ℕ) (m : List ℕ) where
   pub scan-short : length m < 240 → stopped 1 (length m) ≡ scanOf want m
@@ -245,4 +270,4 @@ module _ (want : ℕ) (m : List ℕ) where
   pub scan-fields : AllBytes m → 240 ≤ length m → length m ≤ 1472 → same (take 4 (drop 236 m)) cookie ≡ true
       → walked want m (walkField options want noState (drop 240 m)) ≡ scanOf want m
   unfolding scanOf readMessage
-  scan-fields b h k e = rw (le-ltb (length m) 240 h, le-ltb 1472 (length m) k, e) (fields-scan want m b)
+  scan-fields b h k e = rw (le-ltb (length m) 240 h, le-ltb 1472 (length m) k, e) (scans-is want (overloadOf (firstField m)) (allFields m) (walked want m (walkField options want noState (drop 240 m))) (all-scanned want m b))

@@ -6,7 +6,6 @@ ghost use Rattle.options.specs.Message.{cookie};
 ghost use Rattle.options.specs.Reading.{same, fileIn, snameIn};
 ghost use Rattle.wire.specs.Walk.{fieldOf};
 ghost use Rattle.message.specs.Scan.{scanOf, joined, walkIf, Grown};
-
 use wire::End;
 use wire::Field;
 use wire::State;
@@ -66,10 +65,17 @@ fn join(size: usize, r: Walked) -> Walked
 {
     let e = r.end;
     match e {
-        End::Fault { number: _, place: _ } => r,
+        End::Fault {
+            number: _,
+            place: _,
+        } => r,
         End::Closed => {
             let s = r.state;
-            Walked { state: s, size: size + r.size, end: End::Closed }
+            Walked {
+                state: s,
+                size: size + r.size,
+                end: End::Closed,
+            }
         }
     }
 }
@@ -84,7 +90,10 @@ fn walk_if(on: bool, field: Field, f: &[u8], want: u8, w: Walked) -> Walked
     }
     let e = w.end;
     match e {
-        End::Fault { number: _, place: _ } => w,
+        End::Fault {
+            number: _,
+            place: _,
+        } => w,
         End::Closed => {
             let s = w.state;
             join(w.size, wire::walk(field, f, want, s))

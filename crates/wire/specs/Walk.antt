@@ -34,7 +34,7 @@ stopped n p = record { state = noState; size = 0; end = Fault n p }
 
 -- the first option with the wanted code
 abbrev pub hitAfter : ℕ → Hit → ℕ → ℕ → ℕ → ℕ → Hit
-hitAfter want h t i c n = cond (eqb c want) (cond (eqb (h .field) 0) (record { field = t; offset = i; len = n }) h) h
+hitAfter want h t i c n = cond (eqb want c) (cond (eqb (h .field) 0) (record { field = t; offset = i; len = n }) h) h
 
 -- the option with code c and n data bytes, at offset i
 abbrev pub itemAt : ℕ → ℕ → List ℕ → ℕ → Rec

@@ -1,0 +1,195 @@
+-- The answer for an option that a walk met is the answer for the option that is found. Assumes nothing.
+use mathlib.Core.Path.{_≡_, refl, sym, ap, ap₂, _∙_, subst}
+use mathlib.Core.Bool.{Bool, true, false, cond}
+use mathlib.Core.List.{List, [], _∷_}
+use mathlib.Core.Option.{Option, none, some}
+use Prim.Native.Nat.{ℕ, zero, suc, _+_, _≤_, _<_}
+use native.Mathlib.Omega.{arith}
+use lib.Dec.{eqb}
+use lib.ListN.{length, take, drop, length-take, length-drop}
+use borrow.Author.Tests.{eq-eqb, ne-eqb, eqb-true, eqb-false}
+use Rattle.options.specs.Message.{Field, options, file, sname, start, turn, bytes, Opt, opt, dataStart, place}
+use Rattle.options.specs.Reading.{Reading, accepted, refused, readMessage, find}
+use Rattle.options.specs.Kinds.{Kind, address, addresses, pairs, flag, octet, number16, numbers16, unsigned32, signed32, text, opaque, kindOf, meaning, broken, kinds}
+use Rattle.options.specs.Answers as asked
+use Rattle.options.specs.Refusals.{whole, row-2}
+use Rattle.options.specs.ReadingClaims.{In}
+use Rattle.theorems.proofs.Fields.{option-in}
+use Rattle.theorems.proofs.Reading.{no-row-of, listed-stands, listed-bytes, find-some}
+use Rattle.wire.specs.Walk.{noHit, noState, hitAfter, noted}
+use Rattle.wire.specs.declared.Hit.{Hit}
+use Rattle.wire.specs.declared.State.{State}
+use Rattle.wire.specs.declared.Walked.{Walked}
+use Rattle.message.specs.Scan.{keptAll, scanIn}
+use Rattle.message.proofs.Split.{ScanAccepted}
+use Rattle.lookup.specs.Shown.{fieldAt, placeOf, optionAt, meantAt, foundIn, clipped, extentIn}
+
+-- what a kind makes of its data is a number or a part
+shown-meant : (k : Kind) (d : List ℕ) (p : ℕ) (o : Opt) → p ≡ place o → meantAt (meaning k d) (p + 2) ≡ asked.valueAt o (meaning k d)
+unfolding meaning
+shown-meant address d p o e = refl
+shown-meant addresses d p o e = rw e
+shown-meant pairs d p o e = rw e
+shown-meant flag d p o e = refl
+shown-meant octet d p o e = refl
+shown-meant number16 d p o e = refl
+shown-meant numbers16 d p o e = rw e
+shown-meant unsigned32 d p o e = refl
+shown-meant signed32 d p o e = refl
+shown-meant text d p o e = rw e
+shown-meant opaque d p o e = rw e
+
+-- ---- the answer for a hit, by the tests that the code makes
+
+module _ (m : List ℕ) (set : ℕ → Bool) (c : ℕ) (h : Hit) where
+  abbrev body : List ℕ
+  body = take (h .len) (drop (placeOf h + 2) m)
+
+  pub found-absent : h .field ≡ 0 → asked.Absent ≡ foundIn m set c h
+  unfolding foundIn
+  found-absent e = rw (eq-eqb (h .field) 0 e)
+
+  module _ (z : h .field ≡ 0 → ⊥) where
+    not-known : asked.isKnown kinds set c ≡ false → asked.Unknown (placeOf h + 2) (length body) ≡ foundIn m set c h
+    unfolding foundIn asked.shown
+    not-known e = rw (ne-eqb (h .field) 0 z, e)
+
+    pub found-no-row : kindOf c ≡ none → asked.Unknown (placeOf h + 2) (length body) ≡ foundIn m set c h
+    found-no-row e = not-known (rw e (go (set c)))
+      where
+        go : (b : Bool) → cond b false false ≡ false
+        go true = refl
+        go false = refl
+
+    pub found-unmarked : set c ≡ false → asked.Unknown (placeOf h + 2) (length body) ≡ foundIn m set c h
+    found-unmarked e = not-known (rw e)
+
+    module _ (k : Kind) (r : kindOf c ≡ some k) (s : set c ≡ true) where
+      pub found-broken : (n : ℕ) → kinds .value c body ≡ broken n → asked.Refused n (placeOf h) ≡ foundIn m set c h
+      unfolding foundIn asked.shown
+      found-broken n e = rw (ne-eqb (h .field) 0 z, s, r) (sym (ap (asked.valueAt (optionAt m c h)) (rw r at e)))
+
+      pub found-kept : kinds .value c body ≡ meaning k body → meantAt (meaning k body) (placeOf h + 2) ≡ foundIn m set c h
+      unfolding foundIn asked.shown
+      found-kept e = rw (ne-eqb (h .field) 0 z, s, r) (shown-meant k body (placeOf h) (optionAt m c h) refl ∙ sym (ap (asked.valueAt (optionAt m c h)) (rw r at e)))
+
+-- a part of no bytes is empty
+pub clip-is : (s n : ℕ) → clipped s n ≡ asked.extent s n
+clip-is s zero = refl
+clip-is s (suc n) = rw (ne-eqb (suc n) 0 (omega arith))
+
+-- ---- what a walk keeps of the code that it looks for
+
+abbrev pub hitOf : Hit → Option Opt → Hit
+hitOf h none = h
+hitOf h (some o) = record { field = turn (o .field); offset = o .offset; len = length (o .item .body) }
+
+turn-set : (fd : Field) → eqb (turn fd) 0 ≡ false
+turn-set options = refl
+turn-set file = refl
+turn-set sname = refl
+
+kept-hit : (want : ℕ) (s : State) (os : List Opt) → keptAll want s os .hit ≡ cond (eqb (s .hit .field) 0) (hitOf (s .hit) (find want os)) (s .hit)
+unfolding keptAll find
+kept-hit want s [] = go (eqb (s .hit .field) 0)
+  where
+    go : (b : Bool) → s .hit ≡ cond b (s .hit) (s .hit)
+    go true = refl
+    go false = refl
+kept-hit want s (o ∷ os) = kept-hit want (noted (turn (o .field)) want s (o .offset) (o .item)) os ∙ go (eqb want (o .item .tag)) (eqb (s .hit .field) 0) refl
+  where
+    go : (a b : Bool) → eqb (s .hit .field) 0 ≡ b
+        → cond (eqb (cond a (cond b (hitOf (s .hit) (some o)) (s .hit)) (s .hit) .field) 0) (hitOf (cond a (cond b (hitOf (s .hit) (some o)) (s .hit)) (s .hit)) (find want os)) (cond a (cond b (hitOf (s .hit) (some o)) (s .hit)) (s .hit))
+        ≡ cond b (hitOf (s .hit) (cond a (some o) (find want os))) (s .hit)
+    go true true e = rw (turn-set (o .field))
+    go true false e = rw e
+    go false true e = rw e
+    go false false e = rw e
+
+-- the option that is found has the code, and the bytes at its place
+module _ (code : ℕ) (m : List ℕ) (r : Walked) (os : List Opt) (a : ScanAccepted code m r os) where
+  hit-is : r .state .hit ≡ hitOf noHit (find code os)
+  hit-is = ap (λ (w : Walked). w .state .hit) (a .is) ∙ kept-hit code noState os
+
+  field-at : (fd : Field) → fieldAt (turn fd) ≡ fd
+  field-at options = refl
+  field-at file = refl
+  field-at sname = refl
+
+  option-is : (o : Opt) → find code os ≡ some o → optionAt m code (hitOf noHit (some o)) ≡ o
+  option-is o e =
+      let f = find-some code os o e in
+      ap (λ (fd : Field). opt fd (o .offset) code (take (length (o .item .body)) (drop (start fd + o .offset + 2) m))) (field-at (o .field))
+      ∙ ap₂ (λ (c : ℕ) (d : List ℕ). opt (o .field) (o .offset) c d) (f .1) (listed-bytes m (a .reads) o (f .0))
+
+  pub found-is : (set : ℕ → Bool) → foundIn m set code (r .state .hit) ≡ asked.shownFound kinds set (find code os)
+  unfolding foundIn
+  found-is set = ap (foundIn m set code) hit-is ∙ go (find code os) refl
+    where
+      go : (x : Option Opt) → find code os ≡ x → foundIn m set code (hitOf noHit x) ≡ asked.shownFound kinds set x
+      go none e = refl
+      go (some o) e = rw (turn-set (o .field)) (ap (asked.shown kinds set) (option-is o e))
+
+  pub extent-is : extentIn (r .state .hit) ≡ asked.dataFound (find code os)
+  extent-is = ap extentIn hit-is ∙ go (find code os)
+    where
+      go : (x : Option Opt) → extentIn (hitOf noHit x) ≡ asked.dataFound x
+      go none = refl
+      go (some o) =
+          rw (turn-set (o .field))
+          (ap (λ (fd : Field). clipped (start fd + o .offset + 2) (length (o .item .body))) (field-at (o .field)) ∙ clip-is (dataStart o) (length (o .item .body)))
+
+  field-within : (fd : Field) → length (bytes fd m) ≤ length m
+  field-within options = omega (arith, length-drop 240 m)
+  field-within file = omega (arith, length-take 128 (drop 108 m), length-drop 108 m)
+  field-within sname = omega (arith, length-take 64 (drop 44 m), length-drop 44 m)
+
+  within-1472 : (1472 < length m → ⊥) → length m ≤ 1472
+  within-1472 f = omega arith
+
+  -- the offset is within the message
+  pub offset-small : r .state .hit .offset ≤ 65536
+  offset-small = subst (λ (h : Hit). h .offset ≤ 65536) (sym hit-is) (go (find code os) refl)
+    where
+      go : (x : Option Opt) → find code os ≡ x → hitOf noHit x .offset ≤ 65536
+      go none e = omega arith
+      go (some o) e =
+          let s = listed-stands (a .reads) o (find-some code os o e .0) in
+          let l : length m ≤ 1472 = within-1472 (λ g. no-row-of (a .reads) 2 (length m) (whole 2) (row-2 g)) in
+          omega (arith, option-in (s .stands .option), field-within (o .field))
+
+-- ---- the calls, by the tests that the code makes
+
+module _ (m : List ℕ) (c : ℕ) where
+  code-zero : c ≡ 0 → asked.noCode c ≡ true
+  code-zero e = rw (eq-eqb c 0 e)
+
+  code-end : (c ≡ 0 → ⊥) → c ≡ 255 → asked.noCode c ≡ true
+  code-end z e = rw (ne-eqb c 0 z, eq-eqb c 255 e)
+
+  code-right : (c ≡ 0 → ⊥) → (c ≡ 255 → ⊥) → asked.noCode c ≡ false
+  code-right z e = rw (ne-eqb c 0 z, ne-eqb c 255 e)
+
+  pub lookup-zero : (set : ℕ → Bool) → c ≡ 0 → asked.Refused 10 0 ≡ asked.lookup kinds set m c
+  unfolding asked.lookup
+  lookup-zero set e = rw (code-zero e)
+
+  pub lookup-end : (set : ℕ → Bool) → (c ≡ 0 → ⊥) → c ≡ 255 → asked.Refused 10 0 ≡ asked.lookup kinds set m c
+  unfolding asked.lookup
+  lookup-end set z e = rw (code-end z e)
+
+  pub lookup-read : (set : ℕ → Bool) (w : Reading) → (c ≡ 0 → ⊥) → (c ≡ 255 → ⊥) → readMessage m ≡ w → asked.answered kinds set c w ≡ asked.lookup kinds set m c
+  unfolding asked.lookup
+  lookup-read set w z e r = rw (code-right z e, r)
+
+  pub data-zero : c ≡ 0 → asked.noExtent ≡ asked.dataOf m c
+  unfolding asked.dataOf
+  data-zero e = rw (code-zero e)
+
+  pub data-end : (c ≡ 0 → ⊥) → c ≡ 255 → asked.noExtent ≡ asked.dataOf m c
+  unfolding asked.dataOf
+  data-end z e = rw (code-end z e)
+
+  pub data-read : (w : Reading) → (c ≡ 0 → ⊥) → (c ≡ 255 → ⊥) → readMessage m ≡ w → asked.dataIn c w ≡ asked.dataOf m c
+  unfolding asked.dataOf
+  data-read w z e r = rw (code-right z e, r)

@@ -1,0 +1,65 @@
+-- `lookup::lookup` meets its contract. Assumes nothing.
+use borrow.Author.Needs.{needs}
+use mathlib.Core.Path.{_≡_, sym, ap, _∙_}
+use Rattle.options.specs.KindClaims.{AllBytes}
+use Rattle.options.specs.Reading.{accepted, refused}
+use Rattle.message.proofs.Bridge.{all-bytes}
+use Rattle.message.proofs.Split.{scan-refused, scan-accepted}
+use Rattle.options.specs.CodeSet.{marked}
+use Rattle.lookup.proofs.Laws.{offset-small, found-is, lookup-zero, lookup-end, lookup-read}
+use Rattle.lookup.proofs.lookup.Statement.{statement}
+use Rattle.lookup.proofs.lookup.Tie as tie
+
+returns : tie.Need-returns
+returns c = lookup-zero (c .before .before .args .m .now) (c .before .before .args .code) (marked (c .before .before .args .known)) (c .if1 .taken)
+
+returns-2 : tie.Need-returns-2
+returns-2 c = lookup-end (c .before .before .before .args .m .now) (c .before .before .before .args .code) (marked (c .before .before .before .args .known)) (c .before .if1 .left) (c .if2 .taken)
+
+scan-requires : tie.Need-scan-requires
+scan-requires c κs = search needs
+
+enum-known-e : tie.Need-enum-known-e
+enum-known-e c = search needs
+
+enum-told : tie.Need-enum-told
+enum-told c = search needs
+
+found-requires : tie.Need-found-requires
+found-requires c κs =
+    let s = c .before .before .before .before .before .before .before .before in
+    let m = s .args .m .now in
+    let r = c .before .before .before .before .scan .result in
+    let k : AllBytes m = all-bytes m (λ i. c .before .before .before .before .before .before .before .shared-slice-known .given i .fits) in
+    let a = scan-accepted (s .args .code) m r k (c .before .before .before .before .scan .ensures) (c .before .before .enum-told .given .1) in
+    offset-small (s .args .code) m r (a .0) (a .1)
+
+returns-3 : tie.Need-returns-3
+returns-3 c =
+    let s = c .before .before .before .before .before .before .before in
+    let m = s .args .m .now in
+    let r = c .before .before .before .scan .result in
+    lookup-read m (s .args .code) (marked (s .args .known)) (refused _ _) (c .before .before .before .before .before .if1 .left) (c .before .before .before .before .if2 .left) (scan-refused (s .args .code) m r _ _ (c .before .before .before .scan .ensures) (c .before .e .given .1))
+
+returns-4 : tie.Need-returns-4
+returns-4 c =
+    let s = c .before .before .before .before .before .before .before .before .before in
+    let m = s .args .m .now in
+    let r = c .before .before .before .before .before .scan .result in
+    let k : AllBytes m = all-bytes m (λ i. c .before .before .before .before .before .before .before .before .shared-slice-known .given i .fits) in
+    let a = scan-accepted (s .args .code) m r k (c .before .before .before .before .before .scan .ensures) (c .before .before .before .enum-told .given .1) in
+    c .found .ensures ∙ found-is (s .args .code) m r (a .0) (a .1) (marked (s .args .known))
+    ∙ lookup-read m (s .args .code) (marked (s .args .known)) (accepted (a .0)) (c .before .before .before .before .before .before .before .if1 .left) (c .before .before .before .before .before .before .if2 .left) (a .1 .reads)
+
+pub lookup-spec : {M : Type 1} → statement M
+lookup-spec =
+    tie.close
+    (tie.spec
+    returns
+    returns-2
+    scan-requires
+    enum-known-e
+    enum-told
+    found-requires
+    returns-3
+    returns-4)

@@ -1,0 +1,18 @@
+-- `dhcpopt_reader::dhcpopt_lookup` meets its contract. Assumes nothing.
+use borrow.Author.Needs.{needs}
+use mathlib.Core.Path.{ap, _∙_}
+use Rattle.dhcpopt_reader.specs.Plain.{plainAnswer}
+use Rattle.dhcpopt_reader.proofs.dhcpopt_lookup.Statement.{statement}
+use Rattle.dhcpopt_reader.proofs.dhcpopt_lookup.Tie as tie
+
+lookup-requires : tie.Need-lookup-requires
+lookup-requires c κs = search needs
+
+of-answer-requires : tie.Need-of-answer-requires
+of-answer-requires c κs = search needs
+
+returns : tie.Need-returns
+returns c = c .of-answer .ensures ∙ ap plainAnswer (c .before .lookup .ensures)
+
+pub dhcpopt-lookup-spec : {M : Type 1} → statement M
+dhcpopt-lookup-spec = tie.close (tie.spec lookup-requires of-answer-requires returns)

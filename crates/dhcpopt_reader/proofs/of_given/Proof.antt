@@ -1,0 +1,22 @@
+-- `dhcpopt_reader::of_given` meets its contract. Assumes nothing.
+use borrow.Author.Needs.{needs}
+use Rattle.dhcpopt_reader.proofs.of_given.Statement.{statement}
+use Rattle.dhcpopt_reader.proofs.of_given.Tie as tie
+
+enum-known-g : tie.Need-enum-known-g
+enum-known-g c = search needs
+
+enum-known-g-2 : tie.Need-enum-known-g-2
+enum-known-g-2 c = search needs
+
+cast-t6 : tie.Need-cast-t6
+cast-t6 c = search needs
+
+returns : tie.Need-returns
+returns c = rw (c .before .g .given .1)
+
+returns-2 : tie.Need-returns-2
+returns-2 c = rw (c .before .g2 .given .1)
+
+pub of-given-spec : {M : Type 1} → statement M
+of-given-spec = tie.close (tie.spec enum-known-g enum-known-g-2 cast-t6 returns returns-2)

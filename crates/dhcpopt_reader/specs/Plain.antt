@@ -1,0 +1,53 @@
+-- The answers as plain numbers, for C: each case with its values. Assumes nothing.
+use Prim.Native.Nat.{ℕ}
+use lib.IntN.{ℤ, pos}
+use Rattle.options.specs.Kinds.{Kind}
+use Rattle.options.specs.Answers as asked
+use Rattle.kinds.specs.Numbers.{numberOf}
+use Rattle.wire.specs.declared.End.{End}
+use Rattle.wire.specs.declared.End.the-variants.{Closed, Fault}
+use Rattle.dhcpopt_reader.specs.declared.PlainAnswer.{PlainAnswer}
+use Rattle.dhcpopt_reader.specs.declared.PlainExtent.{PlainExtent}
+use Rattle.dhcpopt_reader.specs.declared.PlainAddress.{PlainAddress}
+use Rattle.dhcpopt_reader.specs.declared.PlainCodes.{PlainCodes}
+use Rattle.dhcpopt_reader.specs.declared.PlainFilled.{PlainFilled}
+
+abbrev pub plainNumber : ℕ → ℤ → PlainAnswer
+plainNumber k z = record { status = 3; kind = k; refusal = 0; number = z; place = 0; start = 0; length = 0 }
+
+abbrev pub plainPart : ℕ → ℕ → ℕ → ℕ → PlainAnswer
+plainPart status k s n = record { status = status; kind = k; refusal = 0; number = pos 0; place = 0; start = s; length = n }
+
+-- status 0 absent, 1 unknown, 2 refused, 3 a kind with its number, 4 a kind with its part; the kinds are numbered 1 to 11
+abbrev pub plainAnswer : asked.Answer → PlainAnswer
+plainAnswer asked.Absent = plainPart 0 0 0 0
+plainAnswer (asked.Unknown s n) = plainPart 1 0 s n
+plainAnswer (asked.Refused n p) = record { status = 2; kind = 0; refusal = n; number = pos 0; place = p; start = 0; length = 0 }
+plainAnswer (asked.Number k z) = plainNumber (numberOf k) z
+plainAnswer (asked.Part k s n) = plainPart 4 (numberOf k) s n
+
+abbrev pub plainExtent : asked.Extent → PlainExtent
+plainExtent e = record { start = e .start; length = e .size }
+
+-- an address and the place after it; or no address, and the place as it was
+abbrev pub plainAddress : ℕ → asked.AddressStep → PlainAddress
+plainAddress at (asked.next a after) = record { given = 1; address = a; next = after }
+plainAddress at asked.done = record { given = 0; address = 0; next = at }
+
+-- number and place of a refusal, 0 and 0 where there is none
+abbrev pub refusalOf : End → ℕ × ℕ
+refusalOf Closed = (0, 0)
+refusalOf (Fault n p) = (n, p)
+
+abbrev pub verdictNumbers : asked.Verdict → ℕ × ℕ
+verdictNumbers asked.taken = (0, 0)
+verdictNumbers (asked.refusedWith n p) = (n, p)
+
+abbrev pub plainCodes : asked.Present → PlainCodes
+plainCodes r =
+    record { words = r .words; count = r .count; lowest = r .lowest; refusal = verdictNumbers (r .verdict) .0; place = verdictNumbers (r .verdict) .1 }
+
+-- the bytes given, or number and place of a refusal
+abbrev pub plainFilled : asked.Given → PlainFilled
+plainFilled (asked.given n) = record { refusal = 0; size = n; place = 0 }
+plainFilled (asked.declined n p) = record { refusal = n; size = 0; place = p }

@@ -1,0 +1,33 @@
+-- The words that a walk keeps mark the codes present. Assumes nothing.
+use mathlib.Core.Path.{_≡_, refl, ap, _∙_}
+use mathlib.Core.List.{List, [], _∷_}
+use Prim.Native.Nat.{ℕ}
+use lib.Count.{ones}
+use Rattle.options.specs.Message.{Opt, turn}
+use Rattle.options.specs.Reading.{Reading, accepted, refused, items, readMessage}
+use Rattle.options.specs.CodeSet.{noCodes, countOf, lowestOf}
+use Rattle.options.specs.Answers.{Present, wordsOf, presentIn, present}
+use Rattle.wire.specs.Walk.{noState, noted}
+use Rattle.wire.specs.declared.State.{State}
+use Rattle.wire.specs.declared.Walked.{Walked}
+use Rattle.message.specs.Scan.{keptAll, roomOf, scanIn, scanOf}
+use Rattle.present.specs.Marked.{verdictOf}
+
+kept-words : (want : ℕ) (s : State) (os : List Opt) → keptAll want s os .seen ≡ wordsOf (s .seen) (items os)
+unfolding keptAll wordsOf items
+kept-words want s [] = refl
+kept-words want s (o ∷ os) = kept-words want (noted (turn (o .field)) want s (o .offset) (o .item)) os
+
+-- the answer that a walk's result gives
+abbrev pub shownBy : Walked → Present
+shownBy w = record { verdict = verdictOf (w .end); words = w .state .seen; count = countOf (w .state .seen); lowest = lowestOf (w .state .seen) 0 }
+
+shown-in : (w : Reading) → shownBy (scanIn 0 w) ≡ presentIn w
+unfolding countOf lowestOf ones
+shown-in (refused n p) = refl
+shown-in (accepted os) =
+    ap (λ (x : List ℕ). record { verdict = verdictOf (scanIn 0 (accepted os) .end); words = x; count = countOf x; lowest = lowestOf x 0 }) (kept-words 0 noState os)
+
+pub shown-is : (m : List ℕ) (w : Walked) → w ≡ scanOf 0 m → shownBy w ≡ present m
+unfolding scanOf present
+shown-is m w e = ap shownBy e ∙ shown-in (readMessage m)

@@ -1,0 +1,95 @@
+-- The bytes of records: their length, and those of a field, an option at a time. Assumes nothing.
+use mathlib.Core.Path.{_≡_, refl, sym, ap, ap₂, _∙_}
+use mathlib.Core.Bool.{Bool, true, false, cond}
+use mathlib.Core.List.{List, [], _∷_, _++_, append-assoc}
+use Prim.Native.Nat.{ℕ, _+_, _/_, _%_, _<_}
+use native.Mathlib.Omega.{arith}
+use lib.Dec.{eqb}
+use lib.ListN.{length, length-append}
+use borrow.Author.Tests.{eq-eqb, ne-eqb}
+use Rattle.options.specs.Message.{Field, options, file, sname, bytes, Rec, Opt}
+use Rattle.options.specs.Reading.{Parse, ended, ranOut, beyond, found, parse, items, fileIn, snameIn}
+use Rattle.options.specs.Answers.{recordBytes, but52}
+use Rattle.theorems.proofs.View.{clash}
+use Rattle.wire.specs.Ahead.{nextOf}
+use Rattle.wire.specs.declared.Spot.the-variants.{Stop}
+use Rattle.message.specs.Scan.{roomOf}
+use Rattle.message.specs.Fields.{optionsIn, onlyIf, fieldOptions, activeOptions}
+use Rattle.records.specs.Fill.{itemsIn, bytesIn, fieldBytes, activeBytes}
+
+-- what the scan measures is the length of the records
+pub room-is : (rs : List Rec) → roomOf rs ≡ length (recordBytes (but52 rs))
+unfolding roomOf but52 recordBytes
+room-is [] = refl
+room-is (r ∷ rs) = go (eqb (r .tag) 52) (room-is rs)
+  where
+    go : (t : Bool) → roomOf rs ≡ length (recordBytes (but52 rs))
+        → cond t 0 (length (r .body) + 3) + roomOf rs ≡ length (recordBytes (cond t (but52 rs) (r ∷ but52 rs)))
+    go true h = omega arith
+    go false h = omega (arith, length-append (r .body) (recordBytes (but52 rs)))
+
+-- ---- one list of options after another
+
+pub items-append : (os ps : List Opt) → items (os ++ ps) ≡ items os ++ items ps
+unfolding items
+items-append [] ps = refl
+items-append (o ∷ os) ps = ap (λ (l : List Rec). o .item ∷ l) (items-append os ps)
+
+pub bytes-append : (rs ss : List Rec) → recordBytes (but52 (rs ++ ss)) ≡ recordBytes (but52 rs) ++ recordBytes (but52 ss)
+unfolding but52 recordBytes
+bytes-append [] ss = refl
+bytes-append (r ∷ rs) ss = go (eqb (r .tag) 52) (bytes-append rs ss)
+  where
+    go : (t : Bool) → recordBytes (but52 (rs ++ ss)) ≡ recordBytes (but52 rs) ++ recordBytes (but52 ss)
+        → recordBytes (cond t (but52 (rs ++ ss)) (r ∷ but52 (rs ++ ss))) ≡ recordBytes (cond t (but52 rs) (r ∷ but52 rs)) ++ recordBytes (but52 ss)
+    go true h = h
+    go false h =
+        let x : List ℕ = r .tag ∷ length (r .body) / 256 ∷ length (r .body) % 256 ∷ r .body in
+        ap (λ (l : List ℕ). x ++ l) h ∙ sym (append-assoc x (recordBytes (but52 rs)) (recordBytes (but52 ss)))
+
+-- ---- the fields of a message
+
+items-field : (fd : Field) (p : Parse) → items (optionsIn fd p) ≡ itemsIn p
+unfolding items optionsIn itemsIn
+items-field fd ended = refl
+items-field fd (ranOut i) = refl
+items-field fd (beyond i) = refl
+items-field fd (found i x p) = ap (λ (l : List Rec). x ∷ l) (items-field fd p)
+
+field-bytes : (on : Bool) (fd : Field) (f : List ℕ) → recordBytes (but52 (items (onlyIf on (fieldOptions fd f)))) ≡ fieldBytes on f
+unfolding fieldBytes bytesIn fieldOptions items but52 recordBytes
+field-bytes true fd f = ap (λ (l : List Rec). recordBytes (but52 l)) (items-field fd (parse 0 0 f))
+field-bytes false fd f = refl
+
+pub active-bytes : (v : ℕ) (m : List ℕ) → recordBytes (but52 (items (activeOptions v m))) ≡ activeBytes v m
+unfolding activeOptions
+active-bytes v m =
+    let a : List Opt = onlyIf true (fieldOptions options (bytes options m)) in
+    let b : List Opt = onlyIf (fileIn v) (fieldOptions file (bytes file m)) in
+    let c : List Opt = onlyIf (snameIn v) (fieldOptions sname (bytes sname m)) in
+    ap (λ (l : List Rec). recordBytes (but52 l)) (items-append a (b ++ c) ∙ ap (λ (l : List Rec). items a ++ l) (items-append b c))
+    ∙ bytes-append (items a) (items b ++ items c)
+    ∙ ap₂ (λ (x y : List ℕ). x ++ y) (field-bytes true options (bytes options m))
+    (bytes-append (items b) (items c)
+    ∙ ap₂ (λ (x y : List ℕ). x ++ y) (field-bytes (fileIn v) file (bytes file m)) (field-bytes (snameIn v) sname (bytes sname m)))
+
+-- ---- one option of a field
+
+pub stop-bytes : (p : Parse) → nextOf p ≡ Stop → bytesIn p ≡ []
+unfolding bytesIn itemsIn but52 recordBytes
+stop-bytes ended e = refl
+stop-bytes (ranOut i) e = refl
+stop-bytes (beyond i) e = refl
+stop-bytes (found i x p) e = clash (cc)
+
+module _ (i : ℕ) (x : Rec) (p q : Parse) (e : p ≡ found i x q) where
+  pub skip-bytes : x .tag ≡ 52 → bytesIn p ≡ bytesIn q
+  unfolding bytesIn itemsIn but52
+  skip-bytes z = rw (e, eq-eqb (x .tag) 52 z)
+
+  pub put-bytes : (x .tag ≡ 52 → ⊥) → length (x .body) < 256 → bytesIn p ≡ (x .tag ∷ 0 ∷ length (x .body) ∷ x .body) ++ bytesIn q
+  unfolding bytesIn itemsIn but52 recordBytes
+  put-bytes z h =
+      let a : length (x .body) / 256 ≡ 0 = omega arith in
+      let b : length (x .body) % 256 ≡ length (x .body) = omega arith in
+      rw (e, ne-eqb (x .tag) 52 z, a, b)

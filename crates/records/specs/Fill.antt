@@ -1,0 +1,51 @@
+-- The records of a message in a lent buffer: the answer case by case, and what each function lays into the buffer. Assumes nothing.
+use mathlib.Core.Path.{_≡_}
+use mathlib.Core.Bool.{Bool, true, cond}
+use mathlib.Core.List.{List, [], _∷_, _++_}
+use Prim.Native.Nat.{ℕ, _+_}
+use lib.ListN.{length, take, drop}
+use Rattle.options.specs.Message.{options, file, sname, bytes, Rec}
+use Rattle.options.specs.Reading.{Parse, ended, ranOut, beyond, found, parse, fileIn, snameIn}
+use Rattle.options.specs.Answers.{given, declined, Filled, recordBytes, but52}
+use Rattle.options.specs.Answers as answers
+use Rattle.records.specs.declared.Given.{Given}
+use Rattle.records.specs.declared.Given.the-variants.{Bytes, Refused}
+
+-- the answer, case by case: "their length in bytes", or "number and place"
+abbrev pub givenOf : Given → answers.Given
+givenOf (Bytes n) = given n
+givenOf (Refused n p) = declined n p
+
+-- the answer r, and the buffer afterwards, are what the definition gives
+pub record Fills (w : Filled) (r : Given) (after : List ℕ) : Type 0 where
+  pub answer : givenOf r ≡ w .answer
+  pub buffer : after ≡ w .buffer
+
+-- `old` with xs from the place `at` on
+abbrev pub laid : List ℕ → ℕ → List ℕ → List ℕ
+laid old at xs = take at old ++ (xs ++ drop (at + length xs) old)
+
+-- r is the place after xs in the buffer, which is `old` with xs from `at` on
+pub record Placed (old : List ℕ) (at : ℕ) (xs : List ℕ) (r : ℕ) (after : List ℕ) : Type 0 where
+  pub next : r ≡ at + length xs
+  pub buffer : after ≡ laid old at xs
+
+-- the options that are found in a field, wherever its walk ends
+unfoldable pub itemsIn : Parse → List Rec
+itemsIn ended = []
+itemsIn (ranOut i) = []
+itemsIn (beyond i) = []
+itemsIn (found i x rest) = x ∷ itemsIn rest
+
+-- what they are as records, but 52
+unfoldable pub bytesIn : Parse → List ℕ
+unfolding itemsIn but52 recordBytes
+bytesIn p = recordBytes (but52 (itemsIn p))
+
+unfoldable pub fieldBytes : Bool → List ℕ → List ℕ
+unfolding bytesIn parse
+fieldBytes on f = cond on (bytesIn (parse 0 0 f)) []
+
+-- the records of a message whose option 52 is v, or 0 where it has none
+abbrev pub activeBytes : ℕ → List ℕ → List ℕ
+activeBytes v m = fieldBytes true (bytes options m) ++ (fieldBytes (fileIn v) (bytes file m) ++ fieldBytes (snameIn v) (bytes sname m))

@@ -1,0 +1,108 @@
+// The records of a message (document 01, What is asked of a message): every option but 52 in reading order, written to a lent buffer.
+ghost use mathlib.Core.Path.{_≡_};
+ghost use mathlib.Core.Bool.{true};
+ghost use mathlib.Core.List.{_∷_};
+ghost use Prim.Native.Nat.{_+_, _<_, _≤_};
+ghost use lib.ListN.{length};
+ghost use Rattle.options.specs.Answers as answers;
+ghost use Rattle.records.specs.Fill.{Fills, laid, Placed, fieldBytes, activeBytes};
+use wire::End;
+use wire::Spot;
+
+// What is given (document 01, What is asked of a message; Numbers given on refusal): how many bytes of the buffer the records take, or a refusal.
+pub enum Given {
+    Bytes(usize),
+    Refused { number: u8, place: usize },
+}
+
+// Lays src over out from at on.
+fn copy_in(out: &mut [u8], at: usize, src: &[u8])
+    requires { ⌜ at + length (now src) ≤ length (now out) ⌝ }
+    ensures { λ _. ⌜ now (out .exit) ≡ laid (now (out .entry)) at (now (src .entry)) ⌝ }
+{
+    let mut j = 0;
+    while j < src.len() {
+        out[at + j] = src[j];
+        j = j + 1;
+    }
+}
+
+// Lays one record over out from at on. Data of an option has fewer than 256 bytes, so the length's high byte is 0.
+fn put_record(out: &mut [u8], at: usize, code: u8, body: &[u8])
+    requires { ⌜ (at + 3 + length (now body) ≤ length (now out)) × (length (now body) < 256) ⌝ }
+    ensures { λ _. ⌜ now (out .exit) ≡ laid (now (out .entry)) at (code ∷ 0 ∷ length (now (body .entry)) ∷ now (body .entry)) ⌝ }
+{
+    out[at] = code;
+    out[at + 1] = 0;
+    out[at + 2] = body.len() as u8;
+    copy_in(out, at + 3, body);
+}
+
+// Lays the records of a field's options over out from at on, and gives the place after them.
+fn put_field(f: &[u8], out: &mut [u8], at: usize) -> usize
+    requires { ⌜ at + length (fieldBytes true (now f)) ≤ length (now out) ⌝ }
+    ensures { λ r. ⌜ Placed (now (out .entry)) at (fieldBytes true (now (f .entry))) r (now (out .exit)) ⌝ }
+{
+    let mut o = at;
+    let mut i: usize = 0;
+    while i < f.len() {
+        match wire::next_option(f, i) {
+            Spot::Stop => {
+                return o;
+            }
+            Spot::Item { offset, code, len } => {
+                let a = offset + 2;
+                let e = a + len;
+                if code != 52 {
+                    put_record(out, o, code, &f[a..e]);
+                    o = o + 3 + len;
+                }
+                i = e;
+            }
+        }
+    }
+    o
+}
+
+// The same for a field that may be inactive.
+fn put_if(on: bool, f: &[u8], out: &mut [u8], at: usize) -> usize
+    requires { ⌜ at + length (fieldBytes on (now f)) ≤ length (now out) ⌝ }
+    ensures { λ r. ⌜ Placed (now (out .entry)) at (fieldBytes on (now (f .entry))) r (now (out .exit)) ⌝ }
+{
+    if !on {
+        return at;
+    }
+    put_field(f, out, at)
+}
+
+// Lays the records of every active field over out from its start on, in reading order; v is the value of option 52.
+fn put_active(m: &[u8], v: u8, out: &mut [u8]) -> usize
+    requires { ⌜ (240 ≤ length (now m)) × (length (activeBytes v (now m)) ≤ length (now out)) ⌝ }
+    ensures { λ r. ⌜ Placed (now (out .entry)) 0 (activeBytes v (now (m .entry))) r (now (out .exit)) ⌝ }
+{
+    let a = put_field(&m[240..], out, 0);
+    let b = put_if(message::file_on(v), &m[108..236], out, a);
+    put_if(message::sname_on(v), &m[44..108], out, b)
+}
+
+// The records of a message (document 01, Sheet of a message): one walk that judges and measures, then one that writes.
+pub fn records(m: &[u8], out: &mut [u8]) -> Given
+    ensures { λ r. ⌜ Fills (answers.records (now (m .entry)) (now (out .entry))) r (now (out .exit)) ⌝ }
+{
+    let w = message::scan(m, 0);
+    let e = w.end;
+    match e {
+        End::Fault { number, place } => Given::Refused { number, place },
+        End::Closed => {
+            let n = out.len();
+            if n < w.size {
+                return Given::Refused {
+                    number: 11,
+                    place: n,
+                };
+            }
+            let s = w.state;
+            Given::Bytes(put_active(m, s.over, out))
+        }
+    }
+}

@@ -10,7 +10,7 @@ use lib.Dec.{eqb}
 use native.Mathlib.Decide.{ℕ-discrete as decEq}
 use lib.Pow.{pow-lt, pow-pos}
 use lib.Bits.{bitOr, or-step, or-zero-r}
-use lib.Count.{ones, ones-step, trailingZeros, under}
+use lib.Count.{ones, ones-step, trailingZeros}
 use lib.ListN.{length, getD, set, drop, drop-of-length-le}
 use native.Mathlib.Numerals.{add-one}
 use lib.Seq.{drop-cons, getD-set-same, getD-set-other}
@@ -69,10 +69,19 @@ or-ones a (suc k) h =
     let e : ones (bitOr a (2 ^ suc k)) ≡ bitOr a (2 ^ suc k) % 2 + ones (bitOr (a / 2) (2 ^ k)) = ones-step (bitOr a (2 ^ suc k)) ∙ rw half-suc in
     omega (arith, ones-step a, or-ones (a / 2) k (sym (bit-suc a k) ∙ h))
 
--- the zeros below the lowest digit
-under-cases : (d t : ℕ) → under d t ≡ under d t
-under-cases d t = refl
+-- a digit that is set already
+pub or-already : (a k : ℕ) → bit a k ≡ 1 → bitOr a (2 ^ k) ≡ a
+or-already a zero h = rw or-zero (omega arith)
+or-already a (suc k) h = let e : bitOr (a / 2) (2 ^ k) ≡ a / 2 = or-already (a / 2) k (sym (bit-suc a k) ∙ h) in rw (or-suc, e) (omega arith)
 
+-- setting a digit changes the word exactly where it was not set
+pub or-marked : (a k : ℕ) → bitOr a (2 ^ k) ≡ a → eqb (bit a k) 1 ≡ true
+or-marked a k h = eq-eqb (bit a k) 1 (ap (λ (x : ℕ). bit x k) (sym h) ∙ or-same a k)
+
+pub or-unmarked : (a k : ℕ) → (bitOr a (2 ^ k) ≡ a → ⊥) → eqb (bit a k) 1 ≡ false
+or-unmarked a k h = ne-eqb (bit a k) 1 (λ e. h (or-already a k e))
+
+-- the zeros below the lowest digit
 tz-zero : (k n : ℕ) → n % 2 ≡ 0 → trailingZeros (suc k) n ≡ suc (trailingZeros k (n / 2))
 unfolding trailingZeros
 tz-zero k n h = rw h

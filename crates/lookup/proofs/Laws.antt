@@ -13,7 +13,9 @@ use Rattle.options.specs.Reading.{Reading, accepted, refused, readMessage, find
 use Rattle.options.specs.Kinds.{Kind, address, addresses, pairs, flag, octet, number16, numbers16, unsigned32, signed32, text, opaque, kindOf, meaning, broken, kinds}
 use Rattle.options.specs.Answers as asked
 use Rattle.options.specs.Refusals.{whole, row-2}
-use Rattle.options.specs.ReadingClaims.{In}
+use Rattle.options.specs.ReadingClaims.{In, Precedes}
+use mathlib.Core.Logic.{inl, inr}
+use Rattle.theorems.proofs.CodesPresent.{no-code-twice}
 use Rattle.theorems.proofs.Fields.{option-in}
 use Rattle.theorems.proofs.Reading.{no-row-of, listed-stands, listed-bytes, find-some}
 use Rattle.wire.specs.Walk.{noHit, noState, hitAfter, noted}
@@ -89,27 +91,30 @@ turn-set options = refl
 turn-set file = refl
 turn-set sname = refl
 
-kept-hit : (want : ℕ) (s : State) (os : List Opt) → keptAll want s os .hit ≡ cond (eqb (s .hit .field) 0) (hitOf (s .hit) (find want os)) (s .hit)
+-- what was kept stays where no further option has the code
+kept-stays : (want : ℕ) (s : State) (os : List Opt) → ((o : Opt) → In o os → want ≡ o .item .tag → ⊥) → keptAll want s os .hit ≡ s .hit
+unfolding keptAll
+kept-stays want s [] f = refl
+kept-stays want s (o ∷ os) f =
+    kept-stays want (noted (turn (o .field)) want s (o .offset) (o .item)) os (λ q i. f q (inr i)) ∙ rw (ne-eqb want (o .item .tag) (f o (inl refl)))
+
+kept-hit : (want : ℕ) (s : State) (os : List Opt) → ((o q : Opt) → Precedes o q os → o .item .tag ≡ q .item .tag → ⊥) → keptAll want s os .hit ≡ hitOf (s .hit) (find want os)
 unfolding keptAll find
-kept-hit want s [] = go (eqb (s .hit .field) 0)
+kept-hit want s [] f = refl
+kept-hit want s (o ∷ os) f = go (eqb want (o .item .tag)) refl (kept-hit want (noted (turn (o .field)) want s (o .offset) (o .item)) os (λ p q i. f p q (inr i)))
   where
-    go : (b : Bool) → s .hit ≡ cond b (s .hit) (s .hit)
-    go true = refl
-    go false = refl
-kept-hit want s (o ∷ os) = kept-hit want (noted (turn (o .field)) want s (o .offset) (o .item)) os ∙ go (eqb want (o .item .tag)) (eqb (s .hit .field) 0) refl
-  where
-    go : (a b : Bool) → eqb (s .hit .field) 0 ≡ b
-        → cond (eqb (cond a (cond b (hitOf (s .hit) (some o)) (s .hit)) (s .hit) .field) 0) (hitOf (cond a (cond b (hitOf (s .hit) (some o)) (s .hit)) (s .hit)) (find want os)) (cond a (cond b (hitOf (s .hit) (some o)) (s .hit)) (s .hit))
-        ≡ cond b (hitOf (s .hit) (cond a (some o) (find want os))) (s .hit)
-    go true true e = rw (turn-set (o .field))
-    go true false e = rw e
-    go false true e = rw e
-    go false false e = rw e
+    go : (b : Bool) → eqb want (o .item .tag) ≡ b
+        → keptAll want (noted (turn (o .field)) want s (o .offset) (o .item)) os .hit ≡ hitOf (noted (turn (o .field)) want s (o .offset) (o .item) .hit) (find want os)
+        → keptAll want (noted (turn (o .field)) want s (o .offset) (o .item)) os .hit ≡ hitOf (s .hit) (cond b (some o) (find want os))
+    go true e ih =
+        kept-stays want (noted (turn (o .field)) want s (o .offset) (o .item)) os (λ q i z. f o q (inl (refl, i)) (sym (eqb-true want (o .item .tag) e) ∙ z)) ∙ rw e
+    go false e ih = ih ∙ rw e
 
 -- the option that is found has the code, and the bytes at its place
 module _ (code : ℕ) (m : List ℕ) (r : Walked) (os : List Opt) (a : ScanAccepted code m r os) where
   hit-is : r .state .hit ≡ hitOf noHit (find code os)
-  hit-is = ap (λ (w : Walked). w .state .hit) (a .is) ∙ kept-hit code noState os
+  hit-is =
+      ap (λ (w : Walked). w .state .hit) (a .is) ∙ kept-hit code noState os (no-code-twice (record { options = os; reads = a .reads }))
 
   field-at : (fd : Field) → fieldAt (turn fd) ≡ fd
   field-at options = refl

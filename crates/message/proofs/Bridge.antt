@@ -14,11 +14,11 @@ use Rattle.options.specs.CodeSet.{marked, withMark, noCodes}
 use Rattle.codeset.specs.Codes.{Marks}
 use Rattle.codeset.proofs.Codes.{marks-add, marks-none}
 use Rattle.theorems.proofs.CodesPresent.{all-field}
-use Rattle.wire.specs.Walk.{noState, stopped, recordRoom, overWrong, overAfter, noted, walkOf, walkField}
+use Rattle.wire.specs.Walk.{noState, stopped, sizeOf, overWrong, overAfter, noted, walkOf, walkField}
 use Rattle.wire.specs.declared.State.{State}
 use Rattle.wire.specs.declared.Walked.{Walked}
 use Rattle.wire.specs.declared.End.the-variants.{Closed, Fault}
-use Rattle.message.specs.Scan.{keptAll, roomOf, scanIn, scanOf, joined, walkIf}
+use Rattle.message.specs.Scan.{keptAll, usedBy, scanIn, scanOf, joined, walkIf}
 
 -- ---- codes are bytes
 
@@ -96,7 +96,7 @@ over-step fd v x rs e = go (eqb (x .tag) 52) refl e
 -- ---- one field
 
 pub record Takes (fd : Field) (want : ℕ) (s : State) (z : ℕ) (seen : List ℕ) (p : Parse) (os : List Opt) : Type 0 where
-  pub is : walkOf (start fd) (turn fd) want s z p ≡ record { state = keptAll want s os; size = z + roomOf (items os); end = Closed }
+  pub is : walkOf (start fd) (turn fd) want s z p ≡ record { state = keptAll want s os; used = z + usedBy (items os); end = Closed }
   pub marks : Marks (keptAll want s os .seen) (seenAfter seen (items os))
   pub over : keptAll want s os .over ≡ overFrom (s .over) (items os)
 
@@ -114,37 +114,37 @@ over-none v = go (eqb v 0) refl
 
 module _ (fd : Field) (want : ℕ) where
   one-more : (s : State) (z : ℕ) (seen : List ℕ) (i : ℕ) (x : Rec) (p : Parse) (w : Reading) → wrong52 fd x ≡ false → marked (s .seen) (x .tag) ≡ false
-      → Walked-as fd want (noted (turn fd) want s i x) (z + recordRoom (x .tag) (length (x .body))) (x .tag ∷ seen) p w
+      → Walked-as fd want (noted (turn fd) want s i x) (z + sizeOf x) (x .tag ∷ seen) p w
       → Walked-as fd want s z seen (found i x p) (more (record { field = fd; offset = i; item = x }) w)
-  unfolding walkOf keptAll roomOf items seenAfter
+  unfolding walkOf keptAll usedBy items seenAfter
   one-more s z seen i x p (refused n q) e m h = rw (wrong-is fd x, e, m) h
   one-more s z seen i x p (accepted os) e m h =
       record {
         is = rw (wrong-is fd x, e, m)
-            (h .is ∙ ap (λ (k : ℕ). record { state = keptAll want (noted (turn fd) want s i x) os; size = k; end = Closed })
-            (let r : z + recordRoom (x .tag) (length (x .body)) + roomOf (items os) ≡ z + (recordRoom (x .tag) (length (x .body)) + roomOf (items os)) = omega arith in r));
+            (h .is ∙ ap (λ (k : ℕ). record { state = keptAll want (noted (turn fd) want s i x) os; used = k; end = Closed })
+            (let r : z + sizeOf x + usedBy (items os) ≡ z + (sizeOf x + usedBy (items os)) = omega arith in r));
         marks = h .marks;
         over = h .over ∙ over-step fd (s .over) x (items os) e;
       }
 
   pub walk-judged : (s : State) (z : ℕ) (seen : List ℕ) (p : Parse) → Marks (s .seen) seen → Small p → Walked-as fd want s z seen p (judge fd seen p)
-  unfolding walkOf keptAll roomOf items seenAfter judge
+  unfolding walkOf keptAll usedBy items seenAfter judge
   walk-judged s z seen ended m b =
-      record { is = ap (λ (k : ℕ). record { state = s; size = k; end = Closed }) (let r : z ≡ z + 0 = omega arith in r); marks = m; over = over-none (s .over) }
+      record { is = ap (λ (k : ℕ). record { state = s; used = k; end = Closed }) (let r : z ≡ z + 0 = omega arith in r); marks = m; over = over-none (s .over) }
   walk-judged s z seen (ranOut i) m b = refl
   walk-judged s z seen (beyond i) m b = refl
   walk-judged s z seen (found i x p) m b =
       wrong (wrong52 fd x) refl
-      (λ n. walk-judged (noted (turn fd) want s i x) (z + recordRoom (x .tag) (length (x .body))) (x .tag ∷ seen) p (marks-add (s .seen) seen (x .tag) (b .0) n m) (b .1))
+      (λ n. walk-judged (noted (turn fd) want s i x) (z + sizeOf x) (x .tag ∷ seen) p (marks-add (s .seen) seen (x .tag) (b .0) n m) (b .1))
     where
       again : (t : Bool) → among (x .tag) seen ≡ t → wrong52 fd x ≡ false
-          → (t ≡ false → Walked-as fd want (noted (turn fd) want s i x) (z + recordRoom (x .tag) (length (x .body))) (x .tag ∷ seen) p (judge fd (x .tag ∷ seen) p))
+          → (t ≡ false → Walked-as fd want (noted (turn fd) want s i x) (z + sizeOf x) (x .tag ∷ seen) p (judge fd (x .tag ∷ seen) p))
           → Walked-as fd want s z seen (found i x p) (cond t (refused 7 (start fd + i)) (more (record { field = fd; offset = i; item = x }) (judge fd (x .tag ∷ seen) p)))
       again true e w ih = rw (wrong-is fd x, w, m .bits (x .tag) (b .0) ∙ e)
       again false e w ih = one-more s z seen i x p (judge fd (x .tag ∷ seen) p) w (m .bits (x .tag) (b .0) ∙ e) (ih refl)
 
       wrong : (t : Bool) → wrong52 fd x ≡ t
-          → (among (x .tag) seen ≡ false → Walked-as fd want (noted (turn fd) want s i x) (z + recordRoom (x .tag) (length (x .body))) (x .tag ∷ seen) p (judge fd (x .tag ∷ seen) p))
+          → (among (x .tag) seen ≡ false → Walked-as fd want (noted (turn fd) want s i x) (z + sizeOf x) (x .tag ∷ seen) p (judge fd (x .tag ∷ seen) p))
           → Walked-as fd want s z seen (found i x p)
           (cond t (refused 6 (start fd + i)) (cond (among (x .tag) seen) (refused 7 (start fd + i)) (more (record { field = fd; offset = i; item = x }) (judge fd (x .tag ∷ seen) p))))
       wrong true e ih = rw (wrong-is fd x, e)
@@ -157,10 +157,10 @@ unfolding keptAll
 kept-append want s [] ps = refl
 kept-append want s (o ∷ os) ps = kept-append want (noted (turn (o .field)) want s (o .offset) (o .item)) os ps
 
-room-append : (os ps : List Opt) → roomOf (items os) + (0 + roomOf (items ps)) ≡ roomOf (items (os ++ ps))
-unfolding roomOf items
-room-append [] ps = omega arith
-room-append (o ∷ os) ps = omega (arith, room-append os ps)
+used-append : (os ps : List Opt) → usedBy (items os) + (0 + usedBy (items ps)) ≡ usedBy (items (os ++ ps))
+unfolding usedBy items
+used-append [] ps = omega arith
+used-append (o ∷ os) ps = omega (arith, used-append os ps)
 
 seen-append : (seen : List ℕ) (os ps : List Opt) → seenAfter (seenAfter seen (items os)) (items ps) ≡ seenAfter seen (items (os ++ ps))
 unfolding seenAfter items
@@ -184,13 +184,13 @@ scans-is want v (accepted os) r h = h .is
 module _ (fd : Field) (want v : ℕ) (m : List ℕ) (b : AllBytes m) where
   after : (os : List Opt) (w : Reading) → eqb v 0 ≡ false → keptAll want noState os .over ≡ v
       → Walked-as fd want (keptAll want noState os) 0 (seenAfter [] (items os)) (parse 0 0 (bytes fd m)) w
-      → Scans want v (join os w) (joined (roomOf (items os)) (walkField fd want (keptAll want noState os) (bytes fd m)))
+      → Scans want v (join os w) (joined (usedBy (items os)) (walkField fd want (keptAll want noState os) (bytes fd m)))
   unfolding walkField
   after os (refused n p) e o h = rw h
   after os (accepted ps) e o h =
       record {
         is = rw (h .is)
-            (ap₂ (λ (s : State) (k : ℕ). record { state = s; size = k; end = Closed }) (kept-append want noState os ps) (room-append os ps));
+            (ap₂ (λ (s : State) (k : ℕ). record { state = s; used = k; end = Closed }) (kept-append want noState os ps) (used-append os ps));
         marks = rw (← kept-append want noState os ps, ← seen-append [] os ps) (h .marks);
         over = ap (λ (s : State). s .over) (sym (kept-append want noState os ps)) ∙ h .over ∙ rw (o, e);
       }
@@ -211,12 +211,12 @@ firstField m = join [] (judge options [] (parse 0 0 (drop 240 m)))
 first-scans : (want : ℕ) (m : List ℕ) (w : Reading) → Walked-as options want noState 0 [] (parse 0 0 (drop 240 m)) w
     → Scans want (overloadOf (join [] w)) (join [] w) (walkField options want noState (drop 240 m))
     × (walkField options want noState (drop 240 m) .state .over ≡ overloadOf (join [] w))
-unfolding walkField roomOf keptAll items seenAfter
+unfolding walkField usedBy keptAll items seenAfter
 first-scans want m (refused n p) h = (h, ap (λ (x : Walked). x .state .over) h)
 first-scans want m (accepted os) h = (
   record {
     is = h .is
-        ∙ ap (λ (k : ℕ). record { state = keptAll want noState os; size = k; end = Closed }) (let z : 0 + roomOf (items os) ≡ roomOf (items os) = omega arith in z);
+        ∙ ap (λ (k : ℕ). record { state = keptAll want noState os; used = k; end = Closed }) (let z : 0 + usedBy (items os) ≡ usedBy (items os) = omega arith in z);
     marks = h .marks;
     over = h .over;
   },
@@ -271,3 +271,8 @@ module _ (want : ℕ) (m : List ℕ) where
       → walked want m (walkField options want noState (drop 240 m)) ≡ scanOf want m
   unfolding scanOf readMessage
   scan-fields b h k e = rw (le-ltb (length m) 240 h, le-ltb 1472 (length m) k, e) (scans-is want (overloadOf (firstField m)) (allFields m) (walked want m (walkField options want noState (drop 240 m))) (all-scanned want m b))
+
+-- where option 52 is not there, no further field is walked
+pub walked-none : (want : ℕ) (m : List ℕ) (a : Walked) → a .state .over ≡ 0 → a ≡ walked want m a
+unfolding walkIf
+walked-none want m a e = rw e

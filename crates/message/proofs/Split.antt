@@ -6,10 +6,13 @@ use Prim.Native.Nat.{ℕ, zero, suc, _+_, _≤_, _<_}
 use native.Mathlib.Omega.{arith}
 use lib.Dec.{eqb, ltb}
 use lib.ListN.{length, take, drop}
-use Rattle.options.specs.Message.{Field, options, file, sname, start, bytes, cookie, Rec, Opt}
+use Rattle.options.specs.Message.{Field, options, file, sname, start, turn, bytes, cookie, Opt}
 use Rattle.options.specs.Reading.{Parse, ended, ranOut, beyond, found, parse, wrong52, among, judge, more, Reading, accepted, refused, items, seenAfter, join, extend, overloadOf, fileIn, snameIn, allFields, same, readMessage}
+use Rattle.options.specs.CodeSet.{countOf}
+use Rattle.options.specs.Answers.{wordsOf}
+use Rattle.theorems.proofs.CodesPresent.{marks-of, seen-length}
 use Rattle.options.specs.KindClaims.{AllBytes}
-use Rattle.wire.specs.Walk.{noState, stopped, walkField}
+use Rattle.wire.specs.Walk.{noState, noted, walkField}
 use Rattle.wire.specs.declared.Walked.{Walked}
 use Rattle.wire.specs.declared.State.{State}
 use Rattle.wire.specs.declared.End.the-variants.{Closed, Fault}
@@ -121,3 +124,15 @@ scan-accepted want m r b h e = go (readMessage m) refl
         ap (λ (x : Walked). x .state .over) i
         ∙ over-of want m os b (allFields m) f (walked want m (walkField options want noState (drop 240 m))) (all-scanned want m b) in
         (os, record { reads = z; is = i; options-are = fields-split m os f ∙ ap (λ (v : ℕ). activeOptions v m) (sym o) })
+
+-- ---- the set of codes that a scan keeps
+
+pub kept-words : (want : ℕ) (s : State) (os : List Opt) → keptAll want s os .seen ≡ wordsOf (s .seen) (items os)
+unfolding keptAll wordsOf items
+kept-words want s [] = refl
+kept-words want s (o ∷ os) = kept-words want (noted (turn (o .field)) want s (o .offset) (o .item)) os
+
+-- it has as many codes as the message has options
+pub seen-count : (want : ℕ) (m : List ℕ) (os : List Opt) → readMessage m ≡ accepted os → AllBytes m → countOf (keptAll want noState os .seen) ≡ length (items os)
+seen-count want m os e b =
+    rw (kept-words want noState os) (marks-of m e b .count ∙ seen-length [] (items os) ∙ (let z : 0 + length (items os) ≡ length (items os) = omega arith in z))

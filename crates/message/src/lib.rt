@@ -1,6 +1,6 @@
 // One walk over a whole message (document 01, The message and its fields): the length and the cookie, then options, file and sname.
 ghost use mathlib.Core.Path.{_≡_};
-ghost use Prim.Native.Nat.{_+_, _*_, _≤_};
+ghost use Prim.Native.Nat.{_+_, _≤_};
 ghost use lib.ListN.{length, take, drop};
 ghost use Rattle.options.specs.Message.{cookie};
 ghost use Rattle.options.specs.Reading.{same, fileIn, snameIn};
@@ -58,10 +58,10 @@ pub fn sname_on(v: u8) -> bool
     v == 2 || v == 3
 }
 
-// A walk's result, on top of records that take `size` bytes already.
-fn join(size: usize, r: Walked) -> Walked
-    requires { ⌜ (size ≤ 65536) × (r .size ≤ 65536) ⌝ }
-    ensures { λ w. ⌜ (w ≡ joined size r) × (w .size ≤ size + r .size) ⌝ }
+// A walk's result, on top of options that take `used` bytes in the fields before.
+fn join(used: usize, r: Walked) -> Walked
+    requires { ⌜ (used ≤ 65536) × (r .used ≤ 65536) ⌝ }
+    ensures { λ w. ⌜ (w ≡ joined used r) × (w .used ≤ used + r .used) ⌝ }
 {
     let e = r.end;
     match e {
@@ -73,7 +73,7 @@ fn join(size: usize, r: Walked) -> Walked
             let s = r.state;
             Walked {
                 state: s,
-                size: size + r.size,
+                used: used + r.used,
                 end: End::Closed,
             }
         }
@@ -82,7 +82,7 @@ fn join(size: usize, r: Walked) -> Walked
 
 // Walks a further field, where it is active and nothing was refused before.
 fn walk_if(on: bool, field: Field, f: &[u8], want: u8, w: Walked) -> Walked
-    requires { ⌜ (w .size ≤ 8192) × (length (now f) ≤ 8192) ⌝ }
+    requires { ⌜ (w .used ≤ 8192) × (length (now f) ≤ 8192) ⌝ }
     ensures { λ r. ⌜ Grown w (now (f .entry)) (walkIf on (fieldOf field) want (now (f .entry)) w) r ⌝ }
 {
     if !on {
@@ -96,7 +96,7 @@ fn walk_if(on: bool, field: Field, f: &[u8], want: u8, w: Walked) -> Walked
         } => w,
         End::Closed => {
             let s = w.state;
-            join(w.size, wire::walk(field, f, want, s))
+            join(w.used, wire::walk(field, f, want, s))
         }
     }
 }
@@ -118,6 +118,9 @@ pub fn scan(m: &[u8], want: u8) -> Walked
     let a = wire::walk(Field::Options, &m[240..], want, wire::fresh());
     let s = a.state;
     let v = s.over;
+    if v == 0 {
+        return a;
+    }
     let b = walk_if(file_on(v), Field::File, &m[108..236], want, a);
     walk_if(sname_on(v), Field::Sname, &m[44..108], want, b)
 }

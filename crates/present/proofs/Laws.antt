@@ -1,22 +1,17 @@
 -- The words that a walk keeps mark the codes present. Assumes nothing.
 use mathlib.Core.Path.{_≡_, refl, ap, _∙_}
-use mathlib.Core.List.{List, [], _∷_}
+use mathlib.Core.List.{List}
 use Prim.Native.Nat.{ℕ}
 use lib.Count.{ones}
-use Rattle.options.specs.Message.{Opt, turn}
-use Rattle.options.specs.Reading.{Reading, accepted, refused, items, readMessage}
-use Rattle.options.specs.CodeSet.{noCodes, countOf, lowestOf}
-use Rattle.options.specs.Answers.{Present, wordsOf, presentIn, present}
-use Rattle.wire.specs.Walk.{noState, noted}
-use Rattle.wire.specs.declared.State.{State}
+use Rattle.options.specs.Message.{Opt}
+use Rattle.options.specs.Reading.{Reading, accepted, refused, readMessage}
+use Rattle.options.specs.CodeSet.{countOf, lowestOf}
+use Rattle.options.specs.Answers.{Present, presentIn, present}
+use Rattle.wire.specs.Walk.{noState}
 use Rattle.wire.specs.declared.Walked.{Walked}
-use Rattle.message.specs.Scan.{keptAll, roomOf, scanIn, scanOf}
+use Rattle.message.specs.Scan.{scanIn, scanOf}
+use Rattle.message.proofs.Split.{kept-words}
 use Rattle.present.specs.Marked.{verdictOf}
-
-kept-words : (want : ℕ) (s : State) (os : List Opt) → keptAll want s os .seen ≡ wordsOf (s .seen) (items os)
-unfolding keptAll wordsOf items
-kept-words want s [] = refl
-kept-words want s (o ∷ os) = kept-words want (noted (turn (o .field)) want s (o .offset) (o .item)) os
 
 -- the answer that a walk's result gives
 abbrev pub shownBy : Walked → Present

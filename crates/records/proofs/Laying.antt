@@ -11,7 +11,7 @@ use Rattle.wire.specs.declared.Spot.the-variants.{Stop}
 use Rattle.wire.proofs.Laws.{rest, body-length}
 use Rattle.records.specs.Fill.{laid, Placed, bytesIn, fieldBytes}
 use Rattle.records.proofs.Buffers.{laid-nil, laid-next}
-use Rattle.records.proofs.Ahead.{ItemAhead}
+use Rattle.wire.proofs.Items.{ItemAhead}
 use Rattle.records.proofs.Rooms.{stop-bytes, skip-bytes, put-bytes}
 
 -- With the records from offset i on laid at o, the buffer `now` is `old` with all of the field's from `at` on.

@@ -1,5 +1,5 @@
 pub mod Buffers
-pub mod Ahead
 pub mod Rooms
+pub mod Overload
 pub mod Laying
 pub mod Outcomes

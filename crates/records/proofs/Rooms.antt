@@ -2,7 +2,7 @@
 use mathlib.Core.Path.{_≡_, refl, sym, ap, ap₂, _∙_}
 use mathlib.Core.Bool.{Bool, true, false, cond}
 use mathlib.Core.List.{List, [], _∷_, _++_, append-assoc}
-use Prim.Native.Nat.{ℕ, _+_, _/_, _%_, _<_}
+use Prim.Native.Nat.{ℕ, suc, _+_, _/_, _%_, _<_}
 use native.Mathlib.Omega.{arith}
 use lib.Dec.{eqb}
 use lib.ListN.{length, length-append}
@@ -13,18 +13,24 @@ use Rattle.options.specs.Answers.{recordBytes, but52}
 use Rattle.theorems.proofs.View.{clash}
 use Rattle.wire.specs.Ahead.{nextOf}
 use Rattle.wire.specs.declared.Spot.the-variants.{Stop}
-use Rattle.message.specs.Scan.{roomOf}
+use Rattle.message.specs.Scan.{usedBy}
 use Rattle.message.specs.Fields.{optionsIn, onlyIf, fieldOptions, activeOptions}
 use Rattle.records.specs.Fill.{itemsIn, bytesIn, fieldBytes, activeBytes}
 
--- what the scan measures is the length of the records
-pub room-is : (rs : List Rec) → roomOf rs ≡ length (recordBytes (but52 rs))
-unfolding roomOf but52 recordBytes
+-- what options 52 would take as records
+unfoldable pub rooms52 : List Rec → ℕ
+rooms52 [] = 0
+rooms52 (r ∷ rs) = cond (eqb (r .tag) 52) (length (r .body) + 3) 0 + rooms52 rs
+
+-- a record takes one byte more than its option does in its field
+pub room-is : (rs : List Rec) → usedBy rs + length rs ≡ length (recordBytes (but52 rs)) + rooms52 rs
+unfolding usedBy but52 recordBytes rooms52
 room-is [] = refl
 room-is (r ∷ rs) = go (eqb (r .tag) 52) (room-is rs)
   where
-    go : (t : Bool) → roomOf rs ≡ length (recordBytes (but52 rs))
-        → cond t 0 (length (r .body) + 3) + roomOf rs ≡ length (recordBytes (cond t (but52 rs) (r ∷ but52 rs)))
+    go : (t : Bool) → usedBy rs + length rs ≡ length (recordBytes (but52 rs)) + rooms52 rs
+        → 2 + length (r .body) + usedBy rs + suc (length rs)
+        ≡ length (recordBytes (cond t (but52 rs) (r ∷ but52 rs))) + (cond t (length (r .body) + 3) 0 + rooms52 rs)
     go true h = omega arith
     go false h = omega (arith, length-append (r .body) (recordBytes (but52 rs)))
 

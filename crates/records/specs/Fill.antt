@@ -3,6 +3,7 @@ use mathlib.Core.Path.{_≡_}
 use mathlib.Core.Bool.{Bool, true, cond}
 use mathlib.Core.List.{List, [], _∷_, _++_}
 use Prim.Native.Nat.{ℕ, _+_}
+use lib.Dec.{eqb}
 use lib.ListN.{length, take, drop}
 use Rattle.options.specs.Message.{options, file, sname, bytes, Rec}
 use Rattle.options.specs.Reading.{Parse, ended, ranOut, beyond, found, parse, fileIn, snameIn}
@@ -49,3 +50,7 @@ fieldBytes on f = cond on (bytesIn (parse 0 0 f)) []
 -- the records of a message whose option 52 is v, or 0 where it has none
 abbrev pub activeBytes : ℕ → List ℕ → List ℕ
 activeBytes v m = fieldBytes true (bytes options m) ++ (fieldBytes (fileIn v) (bytes file m) ++ fieldBytes (snameIn v) (bytes sname m))
+
+-- what option 52 would take as a record, by its value (0: it is not there)
+abbrev pub room52 : ℕ → ℕ
+room52 over = cond (eqb over 0) 0 4

@@ -2,10 +2,11 @@
 ghost use mathlib.Core.Path.{_≡_};
 ghost use mathlib.Core.Bool.{true};
 ghost use mathlib.Core.List.{_∷_};
-ghost use Prim.Native.Nat.{_+_, _<_, _≤_};
+ghost use Prim.Native.Nat.{_+_, _<_, _≤_, _^_};
+ghost use lib.Dec.{ltb};
 ghost use lib.ListN.{length};
 ghost use Rattle.options.specs.Answers as answers;
-ghost use Rattle.records.specs.Fill.{Fills, laid, Placed, fieldBytes, activeBytes};
+ghost use Rattle.records.specs.Fill.{Fills, laid, Placed, fieldBytes, activeBytes, room52};
 use wire::End;
 use wire::Spot;
 
@@ -85,6 +86,32 @@ fn put_active(m: &[u8], v: u8, out: &mut [u8]) -> usize
     put_if(message::sname_on(v), &m[44..108], out, b)
 }
 
+// A buffer's length beside what all options take as records: option 52, which takes 4 bytes as one, is not written.
+fn with_52(n: usize, over: u8) -> usize
+    requires { ⌜ n ≤ 2 ^ 63 ⌝ }
+    ensures { λ r. ⌜ r ≡ n + room52 over ⌝ }
+{
+    if over == 0 {
+        return n;
+    }
+    n + 4
+}
+
+// Whether n bytes are too few for the records: each takes one byte more than its option does in its field.
+fn too_small(n: usize, used: usize, count: u32, over: u8) -> bool
+    requires { ⌜ n ≤ 2 ^ 63 ⌝ }
+    ensures { λ r. ⌜ r ≡ ltb (n + room52 over) (used + count) ⌝ }
+{
+    let a = with_52(n, over);
+    if a < used {
+        return true;
+    }
+    if a - used < count as usize {
+        return true;
+    }
+    false
+}
+
 // The records of a message (document 01, Sheet of a message): one walk that judges and measures, then one that writes.
 pub fn records(m: &[u8], out: &mut [u8]) -> Given
     ensures { λ r. ⌜ Fills (answers.records (now (m .entry)) (now (out .entry))) r (now (out .exit)) ⌝ }
@@ -94,15 +121,17 @@ pub fn records(m: &[u8], out: &mut [u8]) -> Given
     match e {
         End::Fault { number, place } => Given::Refused { number, place },
         End::Closed => {
+            let s = w.state;
+            let seen = s.seen;
+            let v = s.over;
             let n = out.len();
-            if n < w.size {
+            if too_small(n, w.used, codeset::count(seen), v) {
                 return Given::Refused {
                     number: 11,
                     place: n,
                 };
             }
-            let s = w.state;
-            Given::Bytes(put_active(m, s.over, out))
+            Given::Bytes(put_active(m, v, out))
         }
     }
 }

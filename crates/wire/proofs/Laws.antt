@@ -2,7 +2,7 @@
 use mathlib.Core.Path.{_≡_, refl, sym, ap, _∙_}
 use mathlib.Core.Bool.{Bool, true, false, cond, not}
 use mathlib.Core.List.{List, [], _∷_}
-use Prim.Native.Nat.{ℕ, zero, suc, _+_, _-_, _*_, _≤_, _<_}
+use Prim.Native.Nat.{ℕ, zero, suc, _+_, _-_, _≤_, _<_}
 use native.Mathlib.Nat.{le-of-suc-le-suc, not-suc-le-zero}
 use native.Mathlib.Omega.{arith}
 use lib.Dec.{eqb, ltb, leb}
@@ -11,9 +11,10 @@ use lib.Seq.{drop-cons, drop-drop, length-take-le, getD-take, getD-drop}
 use borrow.Author.Tests.{eq-eqb, ne-eqb, lt-ltb, le-ltb}
 use Rattle.options.specs.Message.{Field, start, turn, Rec}
 use Rattle.options.specs.Reading.{Parse, ended, ranOut, beyond, found, right52, parse}
-use Rattle.wire.specs.Walk.{itemAt, overWrong, stopped, recordRoom, noted, walkOf, walkField, Walks}
+use Rattle.wire.specs.Walk.{itemAt, overWrong, stopped, sizeOf, hitAfter, atAfter, hitAt, noted, walkOf, walkField, Walks}
 use Rattle.wire.specs.declared.State.{State}
 use Rattle.wire.specs.declared.Walked.{Walked}
+use Rattle.wire.specs.declared.Hit.{Hit}
 use Rattle.options.specs.CodeSet.{marked}
 
 -- passing n bytes of data
@@ -66,12 +67,12 @@ module _ (f : List ℕ) (i : ℕ) (h : i < length f) where
   rest-end e = rw (drop-cons f i 0 h) (head-end (getD f i 0) (drop (suc i) f) i e)
 
   module _ (z : getD f i 0 ≡ 0 → ⊥) (e : getD f i 0 ≡ 255 → ⊥) where
-    pub rest-last : length f - i < 2 → rest f i ≡ beyond i
+    pub rest-last : length f ≤ i + 1 → rest f i ≡ beyond i
     rest-last l =
         let l′ : length f ≤ suc i = omega arith in
         rw (drop-cons f i 0 h, drop-of-length-le f l′) (head-last (getD f i 0) i z e)
 
-    module _ (g : 2 ≤ length f - i) where
+    module _ (g : i + 1 < length f) where
       pub two : drop i f ≡ getD f i 0 ∷ getD f (i + 1) 0 ∷ drop (i + 2) f
       two =
           let k : suc i < length f = omega arith in
@@ -79,14 +80,14 @@ module _ (f : List ℕ) (i : ℕ) (h : i < length f) where
           let q : suc (suc i) ≡ i + 2 = omega arith in
           cc (drop-cons f i 0 h, drop-cons f (suc i) 0 k)
 
-      pub rest-long : length f - (i + 2) < getD f (i + 1) 0 → rest f i ≡ beyond i
-      rest-long l = rw two (head-long (getD f i 0) (getD f (i + 1) 0) (drop (i + 2) f) i z e (rw length-drop l))
+      pub rest-long : length f < i + 2 + getD f (i + 1) 0 → rest f i ≡ beyond i
+      rest-long l = rw two (head-long (getD f i 0) (getD f (i + 1) 0) (drop (i + 2) f) i z e (rw length-drop (omega arith)))
 
-      pub rest-found : getD f (i + 1) 0 ≤ length f - (i + 2)
+      pub rest-found : i + 2 + getD f (i + 1) 0 ≤ length f
           → rest f i ≡ found i (itemAt (getD f i 0) (getD f (i + 1) 0) f i) (rest f (i + 2 + getD f (i + 1) 0))
       rest-found l =
           rw two
-          (head-found (getD f i 0) (getD f (i + 1) 0) (drop (i + 2) f) i z e (rw length-drop l)
+          (head-found (getD f i 0) (getD f (i + 1) 0) (drop (i + 2) f) i z e (rw length-drop (omega arith))
           ∙ ap (λ (p : Parse). found i (itemAt (getD f i 0) (getD f (i + 1) 0) f i) p)
           (ap (λ (l : List ℕ). parse (i + 2 + getD f (i + 1) 0) 0 l) (drop-drop (getD f (i + 1) 0) (i + 2) f)))
 
@@ -128,16 +129,28 @@ module _ (first t want : ℕ) (s : State) (z i : ℕ) (x : Rec) (p : Parse) wher
   walk-again e m = rw (e, m)
 
   pub walk-next : overWrong t x ≡ false → marked (s .seen) (x .tag) ≡ false
-      → walkOf first t want s z (found i x p) ≡ walkOf first t want (noted t want s i x) (z + recordRoom (x .tag) (length (x .body))) p
+      → walkOf first t want s z (found i x p) ≡ walkOf first t want (noted t want s i x) (z + sizeOf x) p
   unfolding walkOf
   walk-next e m = rw (e, m)
 
 -- ---- the end of the walk: what it gives is the field's, whose first byte and turn it was told
 
 module _ (fd : Field) (first t want : ℕ) (st : State) (f : List ℕ) (w : Walked) (e : first ≡ start fd) (q : t ≡ turn fd) where
-  pub walk-ends : w ≡ walkOf first t want st 0 (rest f 0) → w .size ≤ 2 * length f → Walks f (walkField fd want st f) w
+  pub walk-ends : w ≡ walkOf first t want st 0 (rest f 0) → w .used ≤ length f → Walks f (walkField fd want st f) w
   unfolding walkField
-  walk-ends h l = record { is = rw (← e, ← q) h; room = l }
+  walk-ends h l = record { is = rw (← e, ← q) h; within = l }
 
   pub walk-stops : (n p : ℕ) → w ≡ stopped n p → stopped n p ≡ walkOf first t want st 0 (rest f 0) → Walks f (walkField fd want st f) w
-  walk-stops n p h k = walk-ends (h ∙ k) (let z : w .size ≡ 0 = ap (λ (x : Walked). x .size) h in omega arith)
+  walk-stops n p h k = walk-ends (h ∙ k) (let z : w .used ≡ 0 = ap (λ (x : Walked). x .used) h in omega arith)
+
+-- ---- the wanted code, kept as an offset
+
+pub hit-none : (f : List ℕ) (t : ℕ) (h : Hit) → hitAt f t h (length f) ≡ h
+hit-none f t h = rw (le-ltb (length f) (length f) (omega arith))
+
+pub hit-next : (f : List ℕ) (t : ℕ) (h : Hit) (want c i at : ℕ) → i < length f → hitAt f t h (atAfter want c i at) ≡ hitAfter want (hitAt f t h at) t i c (getD f (i + 1) 0)
+hit-next f t h want c i at l = go (eqb want c)
+  where
+    go : (b : Bool) → hitAt f t h (cond b i at) ≡ cond b (record { field = t; offset = i; len = getD f (i + 1) 0 }) (hitAt f t h at)
+    go true = rw (lt-ltb i (length f) l)
+    go false = refl

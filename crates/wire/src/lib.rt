@@ -4,7 +4,7 @@ ghost use Prim.Native.Nat.{_+_, _*_, _<_, _≤_, _/_};
 ghost use lib.ListN.{length, getD, drop};
 ghost use Rattle.options.specs.Message.{start, turn};
 ghost use Rattle.options.specs.Reading.{parse};
-ghost use Rattle.wire.specs.Walk.{fieldOf, stopped, noState, walkField, hitAfter, overWrong, overAfter, recordRoom, Walks, itemAt};
+ghost use Rattle.wire.specs.Walk.{fieldOf, stopped, noState, walkField, atAfter, hitAt, overWrong, overAfter, Walks, itemAt};
 ghost use Rattle.wire.specs.Ahead.{nextOf};
 
 pub enum Field {
@@ -33,10 +33,10 @@ pub enum End {
     Fault { number: u8, place: usize },
 }
 
-// `size` is what the options, but 52, take as records of a sheet.
+// `used` is how many bytes of the field its options take, pads and END not counted.
 pub struct Walked {
     pub state: State,
-    pub size: usize,
+    pub used: usize,
     pub end: End,
 }
 
@@ -61,7 +61,7 @@ pub fn stop(number: u8, place: usize) -> Walked
 {
     Walked {
         state: fresh(),
-        size: 0,
+        used: 0,
         end: End::Fault { number, place },
     }
 }
@@ -100,28 +100,34 @@ fn word(c: u8) -> usize
     (c / 64) as usize
 }
 
-// The first option with the wanted code stands.
-fn hit_after(h: Hit, want: u8, c: u8, turn: u8, i: usize, n: usize) -> Hit
-    ensures { λ r. ⌜ r ≡ hitAfter want h turn i c n ⌝ }
+// Where the wanted code stands, after an option with code c at i.
+fn at_after(at: usize, want: u8, c: u8, i: usize) -> usize
+    ensures { λ r. ⌜ r ≡ atAfter want c i at ⌝ }
 {
-    if c == want {
-        if h.field == 0 {
-            return Hit {
-                field: turn,
-                offset: i,
-                len: n,
-            };
-        }
-    }
-    h
+    if c == want { i } else { at }
 }
 
-// What the option at i takes as a record of a sheet.
-fn record_room(c: u8, n: usize) -> usize
-    requires { ⌜ n < 256 ⌝ }
-    ensures { λ r. ⌜ (r ≡ recordRoom c n) × (r ≤ n + 3) ⌝ }
+// The wanted code, where it stands at an offset of this field; else as it was before.
+fn hit_at(f: &[u8], turn: u8, at: usize, before: Hit) -> Hit
+    ensures { λ r. ⌜ r ≡ hitAt (now (f .entry)) turn before at ⌝ }
 {
-    if c == 52 { 0 } else { n + 3 }
+    if at < f.len() {
+        let n = f.len() - at;
+        if n < 2 {
+            return Hit {
+                field: turn,
+                offset: at,
+                len: 0,
+            };
+        }
+        let k = at + 1;
+        return Hit {
+            field: turn,
+            offset: at,
+            len: wide(f[k]),
+        };
+    }
+    before
 }
 
 // Whether the option with code c at i, whose n data bytes are within the field, is an option 52 that is refused.
@@ -171,42 +177,48 @@ pub fn walk(field: Field, f: &[u8], want: u8, st: State) -> Walked
 {
     let first = base(field);
     let turn = turn_of(field);
+    let held = st.hit;
     let mut seen = st.seen;
-    let mut hit = st.hit;
     let mut over = st.over;
-    let mut size: usize = 0;
+    let mut at = f.len();
+    let mut pads: usize = 0;
     let mut i: usize = 0;
     while i < f.len() {
         let c = f[i];
-        if c == 255 {
-            return Walked {
-                state: State { seen, hit, over },
-                size,
-                end: End::Closed,
-            };
-        }
         if c == 0 {
+            pads = pads + 1;
             i = i + 1;
         } else {
-            if f.len() - i < 2 {
+            if c == 255 {
+                let hit = hit_at(f, turn, at, held);
+                return Walked {
+                    state: State { seen, hit, over },
+                    used: i - pads,
+                    end: End::Closed,
+                };
+            }
+            let j = i + 1;
+            if f.len() <= j {
                 return stop(4, first + i);
             }
-            let n = wide(f[i + 1]);
-            if f.len() - (i + 2) < n {
+            let n = wide(f[j]);
+            let e = j + 1 + n;
+            if f.len() < e {
                 return stop(4, first + i);
             }
             if over_wrong(turn, f, i, c, n) {
                 return stop(6, first + i);
             }
+            over = over_after(f, i, c, n, over);
             let k = word(c);
-            if (seen[k] >> (c % 64)) % 2 == 1 {
+            let old = seen[k];
+            let new = old | (1u64 << (c % 64));
+            if new == old {
                 return stop(7, first + i);
             }
-            seen[k] = seen[k] | (1u64 << (c % 64));
-            hit = hit_after(hit, want, c, turn, i, n);
-            over = over_after(f, i, c, n, over);
-            size = size + record_room(c, n);
-            i = i + 2 + n;
+            seen[k] = new;
+            at = at_after(at, want, c, i);
+            i = e;
         }
     }
     stop(5, first + i)
@@ -226,11 +238,12 @@ fn item_at(f: &[u8], i: usize, c: u8) -> Spot
     if c == 255 {
         return Spot::Stop;
     }
-    if f.len() - i < 2 {
+    let j = i + 1;
+    if f.len() <= j {
         return Spot::Stop;
     }
-    let n = wide(f[i + 1]);
-    if f.len() - (i + 2) < n {
+    let n = wide(f[j]);
+    if f.len() < j + 1 + n {
         return Spot::Stop;
     }
     Spot::Item {

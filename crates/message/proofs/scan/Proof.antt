@@ -1,11 +1,14 @@
 -- `message::scan` meets its contract. Assumes nothing.
 use borrow.Author.Needs.{needs}
-use mathlib.Core.Path.{sym, _∙_}
+use mathlib.Core.Path.{_≡_, sym, ap, _∙_}
 use native.Mathlib.Omega.{arith}
+use lib.ListN.{drop}
 use borrow.Author.Tests.{not-true, not-false}
+use Rattle.options.specs.Message.{options}
 use Rattle.options.specs.KindClaims.{AllBytes}
+use Rattle.wire.specs.Walk.{noState, walkField}
 use Rattle.message.proofs.Laws.{take-rest}
-use Rattle.message.proofs.Bridge.{all-bytes, scan-short, scan-long, scan-cookie, scan-fields}
+use Rattle.message.proofs.Bridge.{all-bytes, walked, walked-none, scan-short, scan-long, scan-cookie, scan-fields}
 use Rattle.message.proofs.scan.Statement.{statement}
 use Rattle.message.proofs.scan.Tie as tie
 
@@ -47,6 +50,16 @@ fresh-requires c κs = search needs
 walk-requires : tie.Need-walk-requires
 walk-requires c κs = search needs
 
+returns-4 : tie.Need-returns-4
+returns-4 c =
+    let s = c .before .before .before .before .before .before .before .before .before .before in
+    let a = s .args in
+    let m = a .m .now in
+    let k : AllBytes m = all-bytes m (λ i. c .before .before .before .before .before .before .before .before .before .shared-slice-known .given i .fits) in
+    let w = scan-fields (a .want) m k (c .before .before .before .before .before .before .before .before .if1 .left) (c .before .before .before .before .before .before .before .if2 .left) (sym (c .before .before .before .before .before .before .cookie-ok .ensures) ∙ not-false (c .before .before .before .before .before .before .cookie-ok .result) (c .before .before .before .before .before .if3 .left)) in
+    let e : c .before .before .walk .result ≡ walkField options (a .want) noState (drop 240 m) = rw (← c .before .before .before .fresh .ensures, ← take-rest m 240) (c .before .before .walk .ensures .is) in
+    walked-none (a .want) m (c .before .before .walk .result) (c .if4 .taken) ∙ ap (walked (a .want) m) e ∙ w
+
 file-on-requires : tie.Need-file-on-requires
 file-on-requires c κs = search needs
 
@@ -60,7 +73,7 @@ part-walk-if-end : tie.Need-part-walk-if-end
 part-walk-if-end c = search needs
 
 walk-if-requires : tie.Need-walk-if-requires
-walk-if-requires c κs = (omega (arith, c .before .before .before .walk .ensures .room), search needs)
+walk-if-requires c κs = (omega (arith, c .before .before .before .before .walk .ensures .within), search needs)
 
 sname-on-requires : tie.Need-sname-on-requires
 sname-on-requires c κs = search needs
@@ -75,16 +88,16 @@ part-walk-if-end-2 : tie.Need-part-walk-if-end-2
 part-walk-if-end-2 c = search needs
 
 walk-if-requires-2 : tie.Need-walk-if-requires-2
-walk-if-requires-2 c κs = (omega (arith, c .before .before .walk-if .ensures .room, c .before .before .before .before .before .before .walk .ensures .room), search needs)
+walk-if-requires-2 c κs = (omega (arith, c .before .before .walk-if .ensures .within, c .before .before .before .before .before .before .before .walk .ensures .within), search needs)
 
-returns-4 : tie.Need-returns-4
-returns-4 c =
-    let s = c .before .before .before .before .before .before .before .before .before .before .before .before .before .before .before in
+returns-5 : tie.Need-returns-5
+returns-5 c =
+    let s = c .before .before .before .before .before .before .before .before .before .before .before .before .before .before .before .before in
     let a = s .args in
     let m = a .m .now in
-    let k : AllBytes m = all-bytes m (λ i. c .before .before .before .before .before .before .before .before .before .before .before .before .before .before .shared-slice-known .given i .fits) in
-    rw (c .walk-if2 .ensures .is, c .before .before .sname-on .ensures, c .before .before .before .walk-if .ensures .is, c .before .before .before .before .before .file-on .ensures, c .before .before .before .before .before .before .before .walk .ensures .is, c .before .before .before .before .before .before .before .before .fresh .ensures, take-rest m 240)
-    (scan-fields (a .want) m k (c .before .before .before .before .before .before .before .before .before .before .before .before .before .if1 .left) (c .before .before .before .before .before .before .before .before .before .before .before .before .if2 .left) (sym (c .before .before .before .before .before .before .before .before .before .before .before .cookie-ok .ensures) ∙ not-false (c .before .before .before .before .before .before .before .before .before .before .before .cookie-ok .result) (c .before .before .before .before .before .before .before .before .before .before .if3 .left)))
+    let k : AllBytes m = all-bytes m (λ i. c .before .before .before .before .before .before .before .before .before .before .before .before .before .before .before .shared-slice-known .given i .fits) in
+    rw (c .walk-if2 .ensures .is, c .before .before .sname-on .ensures, c .before .before .before .walk-if .ensures .is, c .before .before .before .before .before .file-on .ensures, c .before .before .before .before .before .before .before .before .walk .ensures .is, c .before .before .before .before .before .before .before .before .before .fresh .ensures, take-rest m 240)
+    (scan-fields (a .want) m k (c .before .before .before .before .before .before .before .before .before .before .before .before .before .before .if1 .left) (c .before .before .before .before .before .before .before .before .before .before .before .before .before .if2 .left) (sym (c .before .before .before .before .before .before .before .before .before .before .before .before .cookie-ok .ensures) ∙ not-false (c .before .before .before .before .before .before .before .before .before .before .before .before .cookie-ok .result) (c .before .before .before .before .before .before .before .before .before .before .before .if3 .left)))
 
 pub scan-spec : {M : Type 1} → statement M
 scan-spec =
@@ -102,6 +115,7 @@ scan-spec =
     part-walk-end
     fresh-requires
     walk-requires
+    returns-4
     file-on-requires
     sub-walk-if
     part-walk-if-start
@@ -112,4 +126,4 @@ scan-spec =
     part-walk-if-start-2
     part-walk-if-end-2
     walk-if-requires-2
-    returns-4)
+    returns-5)

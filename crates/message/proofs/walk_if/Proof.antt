@@ -9,7 +9,7 @@ use Rattle.message.proofs.walk_if.Tie as tie
 
 returns : tie.Need-returns
 unfolding walkIf
-returns c = record { is = rw (not-true (c .before .before .args .on) (c .if1 .taken)) refl; room = omega arith }
+returns c = record { is = rw (not-true (c .before .before .args .on) (c .if1 .taken)) refl; within = omega arith }
 
 enum-told : tie.Need-enum-told
 enum-told c = search needs
@@ -25,7 +25,7 @@ join-requires c κs = search needs
 
 returns-2 : tie.Need-returns-2
 unfolding walkIf
-returns-2 c = record { is = rw (not-false (c .before .before .before .before .args .on) (c .before .before .if1 .left), c .enum-told .given .1) refl; room = omega arith }
+returns-2 c = record { is = rw (not-false (c .before .before .before .before .args .on) (c .before .before .if1 .left), c .enum-told .given .1) refl; within = omega arith }
 
 returns-3 : tie.Need-returns-3
 unfolding walkIf
@@ -33,7 +33,7 @@ returns-3 c =
     let s = c .before .before .before .before .before .before .before in
     record {
       is = rw (not-false (c .before .before .before .before .before .before .before .args .on) (c .before .before .before .before .before .if1 .left), c .before .before .before .enum-told2 .given .1, ← c .before .walk .ensures .is) (c .join .ensures .0);
-      room = omega (arith, c .join .ensures .1, c .before .walk .ensures .room);
+      within = omega (arith, c .join .ensures .1, c .before .walk .ensures .within);
     }
 
 pub walk-if-spec : {M : Type 1} → statement M

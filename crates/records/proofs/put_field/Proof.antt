@@ -6,7 +6,7 @@ use Prim.Native.Nat.{_+_, _-_, _≤_, _<_}
 use lib.ListN.{length, getD}
 use Rattle.wire.specs.Ahead.{nextOf}
 use Rattle.wire.proofs.Laws.{rest-none}
-use Rattle.records.proofs.Ahead.{ItemAhead, item-ahead}
+use Rattle.wire.proofs.Items.{ItemAhead, item-ahead}
 use Rattle.records.proofs.Laying.{Laying, laying-begins, laying-ends, laying-skips, part-length, record-room, laying-on}
 use Rattle.records.proofs.put_field.Statement.{statement}
 use Rattle.records.proofs.put_field.Tie as tie

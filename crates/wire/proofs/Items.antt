@@ -1,17 +1,17 @@
 -- What `nextOf` tells of a field from an offset on. Assumes nothing.
 use mathlib.Core.Path.{_≡_, refl, sym, ap, _∙_, subst}
 use mathlib.Core.List.{List, [], _∷_}
-use Prim.Native.Nat.{ℕ, _+_, _-_, _≤_, _<_}
+use Prim.Native.Nat.{ℕ, _+_, _≤_, _<_}
 use native.Mathlib.Omega.{arith}
 use native.Mathlib.Decide.{ℕ-discrete, decLt}
 use lib.ListN.{length, getD, drop, length-drop}
 use lib.Seq.{drop-drop}
 use Rattle.options.specs.Reading.{found}
 use Rattle.wire.specs.Walk.{itemAt}
 use Rattle.wire.specs.Ahead.{nextOf}
 use Rattle.wire.specs.declared.Spot.{Spot}
 use Rattle.wire.specs.declared.Spot.the-variants.{Item, Stop}
 use Rattle.wire.proofs.Laws.{rest, rest-none, rest-pad, rest-end, rest-last, rest-long, rest-found, body-length}
 
 -- from offset i on, the next option of f has its code c at offset o, and n data bytes
 pub record ItemAhead (f : List ℕ) (i o c n : ℕ) : Type 0 where
@@ -29,22 +29,21 @@ module _ (f : List ℕ) (i : ℕ) (h : i < length f) where
   after-pad z Stop a = tt
   after-pad z (Item o c n) a = record { onward = omega (arith, a .onward); within = a .within; size = a .size; is = rest-pad f i h z ∙ a .is }
 
-  here : (getD f i 0 ≡ 0 → ⊥) → (getD f i 0 ≡ 255 → ⊥) → 2 ≤ length f - i → getD f (i + 1) 0 ≤ length f - (i + 2) → Ahead f i (nextOf (rest f i))
+  here : (getD f i 0 ≡ 0 → ⊥) → (getD f i 0 ≡ 255 → ⊥) → i + 1 < length f → i + 2 + getD f (i + 1) 0 ≤ length f → Ahead f i (nextOf (rest f i))
   here z e g l =
       let n : ℕ = getD f (i + 1) 0 in
-      let w : i + 2 + n ≤ length f = omega arith in
       let r = rest-found f i h z e g l in
-      rw (r, body-length f i n w) (record { onward = omega arith; within = w; size = refl; is = r })
+      rw (r, body-length f i n l) (record { onward = omega arith; within = l; size = refl; is = r })
 
-  at-code : (getD f i 0 ≡ 0 → ⊥) → (getD f i 0 ≡ 255 → ⊥) → Dec (length f - i < 2) → Dec (length f - (i + 2) < getD f (i + 1) 0) → Ahead f i (nextOf (rest f i))
-  at-code z e (yes a) b = rw (rest-last f i h z e a) tt
-  at-code z e (no a) (yes b) = rw (rest-long f i h z e (omega arith) b) tt
-  at-code z e (no a) (no b) = here z e (omega arith) (omega arith)
+  at-code : (getD f i 0 ≡ 0 → ⊥) → (getD f i 0 ≡ 255 → ⊥) → Dec (i + 1 < length f) → Dec (length f < i + 2 + getD f (i + 1) 0) → Ahead f i (nextOf (rest f i))
+  at-code z e (no a) b = rw (rest-last f i h z e (omega arith)) tt
+  at-code z e (yes a) (yes b) = rw (rest-long f i h z e a b) tt
+  at-code z e (yes a) (no b) = here z e a (omega arith)
 
   at-byte : Dec (getD f i 0 ≡ 0) → Dec (getD f i 0 ≡ 255) → Ahead f (i + 1) (nextOf (rest f (i + 1))) → Ahead f i (nextOf (rest f i))
   at-byte (yes z) d a = rw (rest-pad f i h z) (after-pad z (nextOf (rest f (i + 1))) a)
   at-byte (no z) (yes e) a = rw (rest-end f i h e) tt
-  at-byte (no z) (no e) a = at-code z e (decLt (length f - i) 2) (decLt (length f - (i + 2)) (getD f (i + 1) 0))
+  at-byte (no z) (no e) a = at-code z e (decLt (i + 1) (length f)) (decLt (length f) (i + 2 + getD f (i + 1) 0))
 
 ahead : (f xs : List ℕ) (i : ℕ) → drop i f ≡ xs → Ahead f i (nextOf (rest f i))
 ahead f [] i e =

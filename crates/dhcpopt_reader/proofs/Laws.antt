@@ -1,30 +1,16 @@
 -- Answers of the calls as plain numbers. Assumes nothing.
-use mathlib.Core.Path.{_≡_, refl, sym, ap, _∙_}
+use mathlib.Core.Path.{_≡_, sym, ap, _∙_}
 use mathlib.Core.Bool.{true, false}
 use Prim.Native.Nat.{ℕ}
 use native.Mathlib.Omega.{arith}
 use Rattle.options.specs.Answers.{AddressStep, next, done}
-use Rattle.wire.specs.declared.End.{End}
-use Rattle.wire.specs.declared.End.the-variants.{Closed, Fault}
 use Rattle.address.specs.Walk.{cursorOf}
 use Rattle.address.specs.declared.Cursor.{Cursor}
-use Rattle.present.specs.Marked.{verdictOf, presentOf}
-use Rattle.present.specs.declared.Codes.{Codes}
 use Rattle.dhcpopt_reader.specs.declared.PlainAddress.{PlainAddress}
-use Rattle.dhcpopt_reader.specs.declared.PlainCodes.{PlainCodes}
-use Rattle.dhcpopt_reader.specs.Plain.{plainAddress, refusalOf, verdictNumbers, plainCodes}
+use Rattle.dhcpopt_reader.specs.Plain.{plainAddress}
 
 clash {ℓ} : {X : Type ℓ} → _≡_ {A = ℕ} 0 1 → X
 clash e = absurd (omega arith)
-
-refusal-is : (e : End) → refusalOf e ≡ verdictNumbers (verdictOf e)
-refusal-is Closed = refl
-refusal-is (Fault n p) = refl
-
-pub codes-of : (r : Codes)
-    → record { words = r .words; count = r .count; lowest = r .lowest; refusal = refusalOf (r .end) .0; place = refusalOf (r .end) .1 } ≡ plainCodes (presentOf r)
-codes-of r =
-    ap (λ (x : ℕ × ℕ). record { words = r .words; count = r .count; lowest = r .lowest; refusal = x .0; place = x .1 }) (refusal-is (r .end))
 
 pub address-given : (at : ℕ) (s : AddressStep) (c : Cursor) → c ≡ cursorOf at s → c .given ≡ true → record { given = 1; address = c .address; next = c .next } ≡ plainAddress at s
 address-given at (next a k) c e g = ap (λ (x : Cursor). record { given = 1; address = x .address; next = x .next }) e

@@ -4,8 +4,7 @@ use lib.IntN.{ℤ, pos}
 use Rattle.options.specs.Kinds.{Kind}
 use Rattle.options.specs.Answers as asked
 use Rattle.kinds.specs.Numbers.{numberOf}
-use Rattle.wire.specs.declared.End.{End}
-use Rattle.wire.specs.declared.End.the-variants.{Closed, Fault}
+use Rattle.present.specs.Marked.{numberOf as refusalOf, placeOf}
 use Rattle.dhcpopt_reader.specs.declared.PlainAnswer.{PlainAnswer}
 use Rattle.dhcpopt_reader.specs.declared.PlainExtent.{PlainExtent}
 use Rattle.dhcpopt_reader.specs.declared.PlainAddress.{PlainAddress}
@@ -34,18 +33,9 @@ abbrev pub plainAddress : ℕ → asked.AddressStep → PlainAddress
 plainAddress at (asked.next a after) = record { given = 1; address = a; next = after }
 plainAddress at asked.done = record { given = 0; address = 0; next = at }
 
--- number and place of a refusal, 0 and 0 where there is none
-abbrev pub refusalOf : End → ℕ × ℕ
-refusalOf Closed = (0, 0)
-refusalOf (Fault n p) = (n, p)
-
-abbrev pub verdictNumbers : asked.Verdict → ℕ × ℕ
-verdictNumbers asked.taken = (0, 0)
-verdictNumbers (asked.refusedWith n p) = (n, p)
-
 abbrev pub plainCodes : asked.Present → PlainCodes
 plainCodes r =
-    record { words = r .words; count = r .count; lowest = r .lowest; refusal = verdictNumbers (r .verdict) .0; place = verdictNumbers (r .verdict) .1 }
+    record { words = r .words; count = r .count; lowest = r .lowest; refusal = refusalOf (r .verdict); place = placeOf (r .verdict) }
 
 -- the bytes given, or number and place of a refusal
 abbrev pub plainFilled : asked.Given → PlainFilled

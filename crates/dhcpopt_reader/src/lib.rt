@@ -6,14 +6,13 @@ ghost use Rattle.options.specs.Kinds.{kinds};
 ghost use Rattle.options.specs.CodeSet.{marked};
 ghost use Rattle.options.specs.Answers.{lookup, dataOf, textOf, addressStep, present};
 ghost use Rattle.lookup.specs.Shown.{answerOf, extentOf};
-ghost use Rattle.dhcpopt_reader.specs.Plain.{plainAnswer, plainNumber, plainPart, plainExtent, plainAddress, plainCodes, refusalOf, plainFilled};
+ghost use Rattle.dhcpopt_reader.specs.Plain.{plainAnswer, plainNumber, plainPart, plainExtent, plainAddress, plainCodes, plainFilled};
 ghost use Rattle.options.specs.Answers as answers;
 ghost use Rattle.records.specs.Fill.{givenOf};
 use address::Cursor;
 use lookup::Answer;
 use lookup::Extent;
 use records::Given;
-use wire::End;
 
 // status: 0 absent, 1 unknown, 2 refused, 3 a number, 4 a part. kind: 1 to 11 in the order of document 01's table.
 #[repr(C)]
@@ -110,7 +109,7 @@ fn of_answer(a: Answer) -> PlainAnswer
             PlainAnswer {
                 status: 2,
                 kind: 0,
-                refusal: number as u32,
+                refusal: number,
                 number: 0,
                 place,
                 start: 0,
@@ -200,24 +199,6 @@ pub extern "C" fn dhcpopt_address_step(list: &[u8], at: usize) -> PlainAddress
     }
 }
 
-fn refusal_of(e: End) -> u32
-    ensures { λ r. ⌜ r ≡ refusalOf e .0 ⌝ }
-{
-    match e {
-        End::Closed => 0,
-        End::Fault { number, place: _ } => number as u32,
-    }
-}
-
-fn place_of(e: End) -> usize
-    ensures { λ r. ⌜ r ≡ refusalOf e .1 ⌝ }
-{
-    match e {
-        End::Closed => 0,
-        End::Fault { number: _, place } => place,
-    }
-}
-
 // The codes present, their number and the lowest.
 #[no_mangle]
 pub extern "C" fn dhcpopt_present(m: &[u8]) -> PlainCodes
@@ -225,13 +206,12 @@ pub extern "C" fn dhcpopt_present(m: &[u8]) -> PlainCodes
 {
     let c = present::present(m);
     let words = c.words;
-    let e = c.end;
     PlainCodes {
         words,
         count: c.count,
         lowest: c.lowest,
-        refusal: refusal_of(e),
-        place: place_of(e),
+        refusal: c.number,
+        place: c.place,
     }
 }
 
@@ -245,7 +225,7 @@ fn of_given(g: Given) -> PlainFilled
             place: 0,
         },
         Given::Refused { number, place } => PlainFilled {
-            refusal: number as u32,
+            refusal: number,
             size: 0,
             place,
         },

@@ -10,8 +10,8 @@ use Rattle.options.specs.CodeSet.{countOf}
 use Rattle.options.specs.Answers.{acceptedLine, refusedLine, linesOf, listingIn, listing}
 use Rattle.options.specs.KindClaims.{AllBytes}
 use Rattle.theorems.proofs.CodesPresent.{items-length}
-use Rattle.wire.specs.declared.Walked.{Walked}
-use Rattle.wire.specs.declared.End.the-variants.{Closed, Fault}
+use Rattle.wire.specs.Walk.{Walked}
+use Rattle.wire.specs.Walk.{Closed, Fault}
 use Rattle.message.specs.Scan.{scanOf}
 use Rattle.message.proofs.Split.{ScanAccepted, scan-refused, scan-accepted, seen-count}
 use Rattle.listing.specs.Text.{Puts, acceptedText}

@@ -7,7 +7,6 @@ ghost use Rattle.options.specs.Answers.{decimal, refusedLine, acceptedLine, lin
 ghost use Rattle.wire.specs.Walk.{fieldOf};
 ghost use Rattle.message.specs.Fields.{fieldOptions, onlyIf};
 ghost use Rattle.listing.specs.Text.{Puts, lineText, acceptedText};
-use wire::End;
 use wire::Field;
 use wire::Spot;
 
@@ -94,7 +93,7 @@ fn put_count(n: usize, out: &mut [u8]) -> usize
 }
 
 // The listing of an accepted message. Its codes are distinct, so the set of them counts its options.
-fn put_options(m: &[u8], seen: [u64; 4], over: u8, out: &mut [u8]) -> usize
+fn put_options(m: &[u8], seen: [u64; 4], over: u32, out: &mut [u8]) -> usize
     requires { ⌜ (240 ≤ length (now m)) × (length (acceptedText seen over (now m)) ≤ length (now out)) ⌝ }
     ensures { λ r. ⌜ Puts (acceptedText seen over (now (m .entry))) (now (out .entry)) 0 r (now (out .exit)) ⌝ }
 {
@@ -106,7 +105,7 @@ fn put_options(m: &[u8], seen: [u64; 4], over: u8, out: &mut [u8]) -> usize
 }
 
 // The one line of a refusal.
-fn put_refusal(number: u8, place: usize, out: &mut [u8]) -> usize
+fn put_refusal(number: u32, place: usize, out: &mut [u8]) -> usize
     requires { ⌜ length (refusedLine number place) ≤ length (now out) ⌝ }
     ensures { λ r. ⌜ Puts (refusedLine number place) (now (out .entry)) 0 r (now (out .exit)) ⌝ }
 {
@@ -125,13 +124,9 @@ pub fn list(m: &[u8], out: &mut [u8; 16384]) -> usize
 {
     // 0 is no code: none is looked for.
     let w = message::scan(m, 0);
-    let e = w.end;
-    match e {
-        End::Fault { number, place } => put_refusal(number, place, out),
-        End::Closed => {
-            let s = w.state;
-            let seen = s.seen;
-            put_options(m, seen, s.over, out)
-        }
+    if w.number != 0 {
+        return put_refusal(w.number, w.place, out);
     }
+    let seen = w.seen;
+    put_options(m, seen, w.over, out)
 }

@@ -18,10 +18,10 @@ use mathlib.Core.Logic.{inl, inr}
 use Rattle.theorems.proofs.CodesPresent.{no-code-twice}
 use Rattle.theorems.proofs.Fields.{option-in}
 use Rattle.theorems.proofs.Reading.{no-row-of, listed-stands, listed-bytes, find-some}
-use Rattle.wire.specs.Walk.{noHit, noState, hitAfter, noted}
-use Rattle.wire.specs.declared.Hit.{Hit}
-use Rattle.wire.specs.declared.State.{State}
-use Rattle.wire.specs.declared.Walked.{Walked}
+use Rattle.wire.specs.Walk.{noHit, noState, noted}
+use Rattle.wire.specs.Walk.{Hit}
+use Rattle.wire.specs.Walk.{State}
+use Rattle.wire.specs.Walk.{Walked}
 use Rattle.message.specs.Scan.{keptAll, scanIn}
 use Rattle.message.proofs.Split.{ScanAccepted}
 use Rattle.lookup.specs.Shown.{fieldAt, placeOf, optionAt, meantAt, foundIn, clipped, extentIn}
@@ -82,9 +82,9 @@ clip-is s (suc n) = rw (ne-eqb (suc n) 0 (omega arith))
 
 -- ---- what a walk keeps of the code that it looks for
 
-abbrev pub hitOf : Hit → Option Opt → Hit
-hitOf h none = h
-hitOf h (some o) = record { field = turn (o .field); offset = o .offset; len = length (o .item .body) }
+abbrev pub hitFound : Hit → Option Opt → Hit
+hitFound h none = h
+hitFound h (some o) = record { field = turn (o .field); offset = o .offset; len = length (o .item .body) }
 
 turn-set : (fd : Field) → eqb (turn fd) 0 ≡ false
 turn-set options = refl
@@ -98,21 +98,21 @@ kept-stays want s [] f = refl
 kept-stays want s (o ∷ os) f =
     kept-stays want (noted (turn (o .field)) want s (o .offset) (o .item)) os (λ q i. f q (inr i)) ∙ rw (ne-eqb want (o .item .tag) (f o (inl refl)))
 
-kept-hit : (want : ℕ) (s : State) (os : List Opt) → ((o q : Opt) → Precedes o q os → o .item .tag ≡ q .item .tag → ⊥) → keptAll want s os .hit ≡ hitOf (s .hit) (find want os)
+kept-hit : (want : ℕ) (s : State) (os : List Opt) → ((o q : Opt) → Precedes o q os → o .item .tag ≡ q .item .tag → ⊥) → keptAll want s os .hit ≡ hitFound (s .hit) (find want os)
 unfolding keptAll find
 kept-hit want s [] f = refl
 kept-hit want s (o ∷ os) f = go (eqb want (o .item .tag)) refl (kept-hit want (noted (turn (o .field)) want s (o .offset) (o .item)) os (λ p q i. f p q (inr i)))
   where
     go : (b : Bool) → eqb want (o .item .tag) ≡ b
-        → keptAll want (noted (turn (o .field)) want s (o .offset) (o .item)) os .hit ≡ hitOf (noted (turn (o .field)) want s (o .offset) (o .item) .hit) (find want os)
-        → keptAll want (noted (turn (o .field)) want s (o .offset) (o .item)) os .hit ≡ hitOf (s .hit) (cond b (some o) (find want os))
+        → keptAll want (noted (turn (o .field)) want s (o .offset) (o .item)) os .hit ≡ hitFound (noted (turn (o .field)) want s (o .offset) (o .item) .hit) (find want os)
+        → keptAll want (noted (turn (o .field)) want s (o .offset) (o .item)) os .hit ≡ hitFound (s .hit) (cond b (some o) (find want os))
     go true e ih =
         kept-stays want (noted (turn (o .field)) want s (o .offset) (o .item)) os (λ q i z. f o q (inl (refl, i)) (sym (eqb-true want (o .item .tag) e) ∙ z)) ∙ rw e
     go false e ih = ih ∙ rw e
 
 -- the option that is found has the code, and the bytes at its place
 module _ (code : ℕ) (m : List ℕ) (r : Walked) (os : List Opt) (a : ScanAccepted code m r os) where
-  hit-is : r .state .hit ≡ hitOf noHit (find code os)
+  hit-is : r .state .hit ≡ hitFound noHit (find code os)
   hit-is =
       ap (λ (w : Walked). w .state .hit) (a .is) ∙ kept-hit code noState os (no-code-twice (record { options = os; reads = a .reads }))
 
@@ -121,7 +121,7 @@ module _ (code : ℕ) (m : List ℕ) (r : Walked) (os : List Opt) (a : ScanAccep
   field-at file = refl
   field-at sname = refl
 
-  option-is : (o : Opt) → find code os ≡ some o → optionAt m code (hitOf noHit (some o)) ≡ o
+  option-is : (o : Opt) → find code os ≡ some o → optionAt m code (hitFound noHit (some o)) ≡ o
   option-is o e =
       let f = find-some code os o e in
       ap (λ (fd : Field). opt fd (o .offset) code (take (length (o .item .body)) (drop (start fd + o .offset + 2) m))) (field-at (o .field))
@@ -131,18 +131,33 @@ module _ (code : ℕ) (m : List ℕ) (r : Walked) (os : List Opt) (a : ScanAccep
   unfolding foundIn
   found-is set = ap (foundIn m set code) hit-is ∙ go (find code os) refl
     where
-      go : (x : Option Opt) → find code os ≡ x → foundIn m set code (hitOf noHit x) ≡ asked.shownFound kinds set x
+      go : (x : Option Opt) → find code os ≡ x → foundIn m set code (hitFound noHit x) ≡ asked.shownFound kinds set x
       go none e = refl
       go (some o) e = rw (turn-set (o .field)) (ap (asked.shown kinds set) (option-is o e))
 
   pub extent-is : extentIn (r .state .hit) ≡ asked.dataFound (find code os)
   extent-is = ap extentIn hit-is ∙ go (find code os)
     where
-      go : (x : Option Opt) → extentIn (hitOf noHit x) ≡ asked.dataFound x
+      go : (x : Option Opt) → extentIn (hitFound noHit x) ≡ asked.dataFound x
       go none = refl
       go (some o) =
           rw (turn-set (o .field))
           (ap (λ (fd : Field). clipped (start fd + o .offset + 2) (length (o .item .body))) (field-at (o .field)) ∙ clip-is (dataStart o) (length (o .item .body)))
+
+  -- the data is within the message
+  pub data-within : (r .state .hit .field ≡ 0 → ⊥) → placeOf (r .state .hit) + 2 + r .state .hit .len ≤ length m
+  data-within = subst (λ (h : Hit). (h .field ≡ 0 → ⊥) → placeOf h + 2 + h .len ≤ length m) (sym hit-is) (go (find code os) refl)
+    where
+      in-field : (fd : Field) (k n : ℕ) → k + 2 + n ≤ length (bytes fd m) → start (fieldAt (turn fd)) + k + 2 + n ≤ length m
+      in-field options k n h = omega (arith, length-drop 240 m)
+      in-field file k n h = omega (arith, length-take 128 (drop 108 m), length-drop 108 m)
+      in-field sname k n h = omega (arith, length-take 64 (drop 44 m), length-drop 44 m)
+
+      go : (x : Option Opt) → find code os ≡ x → (hitFound noHit x .field ≡ 0 → ⊥) → placeOf (hitFound noHit x) + 2 + hitFound noHit x .len ≤ length m
+      go none e z = absurd (z refl)
+      go (some o) e z =
+          let s = listed-stands (a .reads) o (find-some code os o e .0) in
+          in-field (o .field) (o .offset) (length (o .item .body)) (option-in (s .stands .option))
 
   field-within : (fd : Field) → length (bytes fd m) ≤ length m
   field-within options = omega (arith, length-drop 240 m)
@@ -156,7 +171,7 @@ module _ (code : ℕ) (m : List ℕ) (r : Walked) (os : List Opt) (a : ScanAccep
   pub offset-small : r .state .hit .offset ≤ 65536
   offset-small = subst (λ (h : Hit). h .offset ≤ 65536) (sym hit-is) (go (find code os) refl)
     where
-      go : (x : Option Opt) → find code os ≡ x → hitOf noHit x .offset ≤ 65536
+      go : (x : Option Opt) → find code os ≡ x → hitFound noHit x .offset ≤ 65536
       go none e = omega arith
       go (some o) e =
           let s = listed-stands (a .reads) o (find-some code os o e .0) in

@@ -9,7 +9,7 @@ use Rattle.options.specs.Message.{Field, options, file, sname, start, Opt, opt}
 use Rattle.options.specs.Kinds.{address, addresses, pairs, flag, octet, number16, numbers16, unsigned32, signed32, text, opaque, meaning, kinds, Value, broken, number, part}
 use Rattle.options.specs.Answers as asked
 use Rattle.kinds.specs.Numbers.{kindAt}
-use Rattle.wire.specs.declared.Hit.{Hit}
+use Rattle.wire.specs.Walk.{Hit}
 use Rattle.lookup.specs.declared.Answer.{Answer}
 use Rattle.lookup.specs.declared.Answer.the-variants.{Absent, Unknown, Refused, Address, Addresses, Pairs, Flag, Octet, Number16, Numbers16, Unsigned32, Signed32, Text, Opaque}
 use Rattle.lookup.specs.declared.Extent.{Extent}

@@ -1,19 +1,20 @@
 // Look up a code, its data and its text (document 01, What is asked of a message).
 ghost use mathlib.Core.Path.{_≡_};
 ghost use mathlib.Core.List.{List};
-ghost use Prim.Native.Nat.{_≤_, _+_};
+ghost use Prim.Native.Nat.{_≤_, _<_, _+_};
+ghost use lib.ListN.{length};
+ghost use Rattle.wire.specs.Walk.{hitOf};
 ghost use Rattle.options.specs.Kinds.{kinds, Table};
 ghost use Rattle.options.specs.CodeSet.{marked};
 ghost use Rattle.options.specs.Answers.{lookup, bytesOf, dataOf, textOf};
 ghost use Rattle.lookup.specs.Shown.{answerOf, valueOf, foundIn, extentOf, extentIn, clipped, placeOf};
-use wire::End;
-use wire::Hit;
+use wire::Walked;
 
 // The answer to a lookup; a broken option is the lookup's refusal, with 8 or 9.
 pub enum Answer {
     Absent,
     Unknown { start: usize, len: usize },
-    Refused { number: u8, place: usize },
+    Refused { number: u32, place: usize },
     Address(u32),
     Addresses { start: usize, len: usize },
     Pairs { start: usize, len: usize },
@@ -68,12 +69,12 @@ fn value(k: u8, d: &[u8], start: usize) -> Answer
 }
 
 // The place of the code byte of an option that was met.
-fn place_of(h: Hit) -> usize
-    requires { ⌜ h .offset ≤ 65536 ⌝ }
-    ensures { λ r. ⌜ (r ≡ placeOf h) × (r ≤ 65776) ⌝ }
+fn place_of(w: Walked) -> usize
+    requires { ⌜ w .offset ≤ 65536 ⌝ }
+    ensures { λ r. ⌜ (r ≡ placeOf (hitOf w)) × (r ≤ 65776) ⌝ }
 {
-    let f = h.field;
-    let i = h.offset;
+    let f = w.field;
+    let i = w.offset;
     if f == 1 {
         return 240 + i;
     }
@@ -83,17 +84,24 @@ fn place_of(h: Hit) -> usize
     44 + i
 }
 
-// The answer for an option that was met, or not.
-fn found(m: &[u8], known: [u64; 4], code: u8, h: Hit) -> Answer
-    requires { ⌜ h .offset ≤ 65536 ⌝ }
-    ensures { λ r. ⌜ answerOf r ≡ foundIn (now (m .entry)) (marked known) code h ⌝ }
+fn wide(n: u32) -> usize
+    ensures { λ r. ⌜ (r ≡ n) × (r < 4294967296) ⌝ }
 {
-    if h.field == 0 {
+    n as usize
+}
+
+// The answer for an option that was met, or not.
+fn found(m: &[u8], known: [u64; 4], code: u8, w: Walked) -> Answer
+    requires { ⌜ (w .offset ≤ 65536) × ((w .field ≡ 0 → ⊥) → placeOf (hitOf w) + 2 + w .len ≤ length (now m)) ⌝ }
+    ensures { λ r. ⌜ answerOf r ≡ foundIn (now (m .entry)) (marked known) code (hitOf w) ⌝ }
+{
+    if w.field == 0 {
         return Answer::Absent;
     }
-    let place = place_of(h);
+    let place = place_of(w);
     let start = place + 2;
-    let d = message::part(m, start, h.len);
+    let end = start + wide(w.len);
+    let d = &m[start..end];
     let k = kinds::kind(code);
     if k == 0 {
         return Answer::Unknown {
@@ -109,7 +117,10 @@ fn found(m: &[u8], known: [u64; 4], code: u8, h: Hit) -> Answer
     }
     let number = kinds::fault(code, d);
     if number != 0 {
-        return Answer::Refused { number, place };
+        return Answer::Refused {
+            number: number as u32,
+            place,
+        };
     }
     value(k, d, start)
 }
@@ -131,15 +142,13 @@ pub fn lookup(m: &[u8], known: [u64; 4], code: u8) -> Answer
         };
     }
     let w = message::scan(m, code);
-    let e = w.end;
-    match e {
-        End::Fault { number, place } => Answer::Refused { number, place },
-        End::Closed => {
-            let s = w.state;
-            let h = s.hit;
-            found(m, known, code, h)
-        }
+    if w.number != 0 {
+        return Answer::Refused {
+            number: w.number,
+            place: w.place,
+        };
     }
+    found(m, known, code, w)
 }
 
 // A part that begins at start: 0 and 0 when it is empty.
@@ -153,14 +162,14 @@ fn clip(start: usize, len: usize) -> Extent
 }
 
 // The data part of an option that was met, or not.
-fn data_in(h: Hit) -> Extent
-    requires { ⌜ h .offset ≤ 65536 ⌝ }
-    ensures { λ r. ⌜ extentOf r ≡ extentIn h ⌝ }
+fn data_in(w: Walked) -> Extent
+    requires { ⌜ w .offset ≤ 65536 ⌝ }
+    ensures { λ r. ⌜ extentOf r ≡ extentIn (hitOf w) ⌝ }
 {
-    if h.field == 0 {
+    if w.field == 0 {
         return Extent { start: 0, len: 0 };
     }
-    clip(place_of(h) + 2, h.len)
+    clip(place_of(w) + 2, wide(w.len))
 }
 
 // Where all data bytes of a code stand, whether it is known or not, broken or not.
@@ -174,18 +183,10 @@ pub fn data_extent(m: &[u8], code: u8) -> Extent
         return Extent { start: 0, len: 0 };
     }
     let w = message::scan(m, code);
-    let e = w.end;
-    match e {
-        End::Fault {
-            number: _,
-            place: _,
-        } => Extent { start: 0, len: 0 },
-        End::Closed => {
-            let s = w.state;
-            let h = s.hit;
-            data_in(h)
-        }
+    if w.number != 0 {
+        return Extent { start: 0, len: 0 };
     }
+    data_in(w)
 }
 
 // The data bytes of a code, as a part of the message; empty when the code is absent or the call is refused.

@@ -15,9 +15,9 @@ use Rattle.codeset.specs.Codes.{Marks}
 use Rattle.codeset.proofs.Codes.{marks-add, marks-none}
 use Rattle.theorems.proofs.CodesPresent.{all-field}
 use Rattle.wire.specs.Walk.{noState, stopped, sizeOf, overWrong, overAfter, noted, walkOf, walkField}
-use Rattle.wire.specs.declared.State.{State}
-use Rattle.wire.specs.declared.Walked.{Walked}
-use Rattle.wire.specs.declared.End.the-variants.{Closed, Fault}
+use Rattle.wire.specs.Walk.{State}
+use Rattle.wire.specs.Walk.{Walked}
+use Rattle.wire.specs.Walk.{Closed, Fault}
 use Rattle.message.specs.Scan.{keptAll, usedBy, scanIn, scanOf, joined, walkIf}
 
 -- ---- codes are bytes

@@ -13,9 +13,9 @@ use Rattle.options.specs.Answers.{wordsOf}
 use Rattle.theorems.proofs.CodesPresent.{marks-of, seen-length}
 use Rattle.options.specs.KindClaims.{AllBytes}
 use Rattle.wire.specs.Walk.{noState, noted, walkField}
-use Rattle.wire.specs.declared.Walked.{Walked}
-use Rattle.wire.specs.declared.State.{State}
-use Rattle.wire.specs.declared.End.the-variants.{Closed, Fault}
+use Rattle.wire.specs.Walk.{Walked}
+use Rattle.wire.specs.Walk.{State}
+use Rattle.wire.specs.Walk.{Closed, Fault}
 use Rattle.message.specs.Scan.{keptAll, scanIn, scanOf}
 use Rattle.message.specs.Fields.{optionsIn, onlyIf, fieldOptions, activeOptions}
 use Rattle.message.proofs.Bridge.{firstField, Kept, Scans, walked, all-scanned}

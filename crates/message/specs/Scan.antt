@@ -6,11 +6,8 @@ use Prim.Native.Nat.{ℕ, _+_, _≤_}
 use lib.ListN.{length}
 use Rattle.options.specs.Message.{Field, turn, Rec, Opt}
 use Rattle.options.specs.Reading.{Reading, accepted, refused, items, readMessage}
-use Rattle.wire.specs.Walk.{noState, stopped, sizeOf, noted, walkField}
-use Rattle.wire.specs.declared.State.{State}
-use Rattle.wire.specs.declared.End.{End}
-use Rattle.wire.specs.declared.End.the-variants.{Closed, Fault}
-use Rattle.wire.specs.declared.Walked.{Walked}
+use Rattle.wire.specs.Walk.{State, End, Closed, Fault, Walked, walkedOf, noState, stopped, sizeOf, noted, walkField}
+use Rattle.wire.specs.declared.Walked as flat
 
 -- the options, in reading order, noted one after another
 unfoldable pub keptAll : ℕ → State → List Opt → State
@@ -48,6 +45,12 @@ walkIf false fd want f w = w
 walkIf true fd want f w = walkAfter (w .end) fd want f w
 
 -- r is what is wanted, and its options take at most the field more than those of w
-pub record Grown (w : Walked) (f : List ℕ) (wanted r : Walked) : Type 0 where
-  pub is : r ≡ wanted
+pub record Grown (w : flat.Walked) (f : List ℕ) (wanted : Walked) (r : flat.Walked) : Type 0 where
+  pub is : walkedOf r ≡ wanted
   pub within : r .used ≤ w .used + length f
+  pub no-place : r .number ≡ 0 → r .place ≡ 0
+
+-- r is w, and without a refusal there is no place
+pub record Scanned (w : Walked) (r : flat.Walked) : Type 0 where
+  pub is : walkedOf r ≡ w
+  pub no-place : r .number ≡ 0 → r .place ≡ 0

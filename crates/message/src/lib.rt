@@ -4,11 +4,9 @@ ghost use Prim.Native.Nat.{_+_, _≤_};
 ghost use lib.ListN.{length, take, drop};
 ghost use Rattle.options.specs.Message.{cookie};
 ghost use Rattle.options.specs.Reading.{same, fileIn, snameIn};
-ghost use Rattle.wire.specs.Walk.{fieldOf};
-ghost use Rattle.message.specs.Scan.{scanOf, joined, walkIf, Grown};
-use wire::End;
+ghost use Rattle.wire.specs.Walk.{fieldOf, walkedOf};
+ghost use Rattle.message.specs.Scan.{scanOf, joined, walkIf, Grown, Scanned};
 use wire::Field;
-use wire::State;
 use wire::Walked;
 
 // The len bytes from start on, or those of them that there are.
@@ -45,14 +43,14 @@ fn cookie_ok(m: &[u8]) -> bool
 }
 
 // Whether file is active, by the value of option 52.
-pub fn file_on(v: u8) -> bool
+pub fn file_on(v: u32) -> bool
     ensures { λ r. ⌜ r ≡ fileIn v ⌝ }
 {
     v == 1 || v == 3
 }
 
 // Whether sname is active, by the value of option 52.
-pub fn sname_on(v: u8) -> bool
+pub fn sname_on(v: u32) -> bool
     ensures { λ r. ⌜ r ≡ snameIn v ⌝ }
 {
     v == 2 || v == 3
@@ -61,49 +59,42 @@ pub fn sname_on(v: u8) -> bool
 // A walk's result, on top of options that take `used` bytes in the fields before.
 fn join(used: usize, r: Walked) -> Walked
     requires { ⌜ (used ≤ 65536) × (r .used ≤ 65536) ⌝ }
-    ensures { λ w. ⌜ (w ≡ joined used r) × (w .used ≤ used + r .used) ⌝ }
+    ensures { λ w. ⌜ (walkedOf w ≡ joined used (walkedOf r)) × (w .used ≤ used + r .used) × (w .number ≡ 0 → w .place ≡ 0) ⌝ }
 {
-    let e = r.end;
-    match e {
-        End::Fault {
-            number: _,
-            place: _,
-        } => r,
-        End::Closed => {
-            let s = r.state;
-            Walked {
-                state: s,
-                used: used + r.used,
-                end: End::Closed,
-            }
-        }
+    if r.number != 0 {
+        return r;
+    }
+    let seen = r.seen;
+    let all = used + r.used;
+    Walked {
+        seen,
+        offset: r.offset,
+        used: all,
+        place: 0,
+        field: r.field,
+        len: r.len,
+        over: r.over,
+        number: 0,
     }
 }
 
 // Walks a further field, where it is active and nothing was refused before.
 fn walk_if(on: bool, field: Field, f: &[u8], want: u8, w: Walked) -> Walked
-    requires { ⌜ (w .used ≤ 8192) × (length (now f) ≤ 8192) ⌝ }
-    ensures { λ r. ⌜ Grown w (now (f .entry)) (walkIf on (fieldOf field) want (now (f .entry)) w) r ⌝ }
+    requires { ⌜ (w .used ≤ 8192) × (length (now f) ≤ 8192) × (w .number ≡ 0 → w .place ≡ 0) ⌝ }
+    ensures { λ r. ⌜ Grown w (now (f .entry)) (walkIf on (fieldOf field) want (now (f .entry)) (walkedOf w)) r ⌝ }
 {
     if !on {
         return w;
     }
-    let e = w.end;
-    match e {
-        End::Fault {
-            number: _,
-            place: _,
-        } => w,
-        End::Closed => {
-            let s = w.state;
-            join(w.used, wire::walk(field, f, want, s))
-        }
+    if w.number != 0 {
+        return w;
     }
+    join(w.used, wire::walk(field, f, want, w))
 }
 
 // Walks the message once: what is kept of its options, the code wanted among them, or the refusal.
 pub fn scan(m: &[u8], want: u8) -> Walked
-    ensures { λ r. ⌜ r ≡ scanOf want (now (m .entry)) ⌝ }
+    ensures { λ r. ⌜ Scanned (scanOf want (now (m .entry))) r ⌝ }
 {
     let n = m.len();
     if n < 240 {
@@ -115,9 +106,8 @@ pub fn scan(m: &[u8], want: u8) -> Walked
     if !cookie_ok(m) {
         return wire::stop(3, 236);
     }
-    let a = wire::walk(Field::Options, &m[240..], want, wire::fresh());
-    let s = a.state;
-    let v = s.over;
+    let a = wire::walk(Field::Options, &m[240..], want, wire::stop(0, 0));
+    let v = a.over;
     if v == 0 {
         return a;
     }

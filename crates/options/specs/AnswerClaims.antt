@@ -1,20 +1,20 @@
--- WHAT THE OTHER ANSWERS MUST SATISFY: data, text, codes present, records, listing, address walk, of any accepted message. Proved in crate theorems.
+-- WHAT THE OTHER ANSWERS MUST SATISFY: data, text, the lookup's bytes, codes present, records, listing, address walk. Proved in crate theorems.
 -- Assumes nothing.
 use mathlib.Core.Path.{_≡_}
 use mathlib.Core.List.{List, [], _∷_, _++_}
-use mathlib.Core.Bool.{Bool, true, false}
-use mathlib.Core.Option.{Option, none, some}
+use mathlib.Core.Bool.{Bool, true}
+use mathlib.Core.Option.{some}
 use mathlib.Core.Logic.{_⊎_, _↔_}
-use Prim.Native.Nat.{ℕ, suc, _+_, _*_, _/_, _^_, _-_, _≤_, _<_}
+use Prim.Native.Nat.{ℕ, _+_, _*_, _/_, _^_, _-_, _≤_, _<_}
 use lib.ListN.{length, getD, take, drop}
-use Rattle.options.specs.Message.{Rec, Opt, dataStart, Holds, heldOption, Earlier}
+use Rattle.options.specs.Message.{Opt, dataStart, Holds, heldOption, Earlier}
 use Rattle.options.specs.Reading.{items}
 use Rattle.options.specs.Kinds.{Kind, text, kindOf, kinds, addressesOf}
 use Rattle.options.specs.CodeSet.{marked, noCodes, countOf}
-use Rattle.options.specs.Answers.{isKnown, Part, Absent, lookup, Extent, noExtent, extent, bytesOf, dataOf, textOf, AddressStep, next, done, addressStep, taken, refusedWith, Present, present, recordBytes, but52, filledWith, unfilled, records, decimal, acceptedLine, refusedLine, linesOf, listing}
+use Rattle.options.specs.Answers.{Answer, Absent, Unknown, Part, lookup, Extent, noExtent, extent, bytesOf, dataOf, textOf, next, done, addressStep, passed, refusedWith, Present, present, recordBytes, but52, given, Filled, unfilled, filledWith, records, decimal, acceptedLine, refusedLine, linesOf, listing}
 use Rattle.options.specs.Refusals.{First}
 use Rattle.options.specs.ReadingClaims.{IsAccepted, CorrectList}
-use Rattle.options.specs.KindClaims.{AllBytes, TextEnds}
+use Rattle.options.specs.KindClaims.{FromTo, AllBytes, TextEnds}
 
 -- ---- "Data of a code: the part of the caller's message that holds all data bytes, whether known, broken or not"
 
@@ -43,10 +43,28 @@ TextIsTheOptions =
     (set : ℕ → Bool) (m : List ℕ) (c n : ℕ) → IsAccepted m → (h : Holds m c) → set c ≡ true → kindOf c ≡ some text → 1 ≤ length (h .body) → TextEnds (h .body) n
     → bytesOf m (textOf set m c) ≡ take n (h .body)
 
+-- "a part is a start and a length, 0 and 0 when it is empty"
+abbrev pub ZeroIfEmpty : Extent → Type 0
+ZeroIfEmpty e = e .size ≡ 0 → e .start ≡ 0
+
+abbrev pub EmptyPartIsZero : Type 0
+EmptyPartIsZero = (set : ℕ → Bool) (m : List ℕ) (c : ℕ) → ZeroIfEmpty (dataOf m c) × ZeroIfEmpty (textOf set m c)
+
+-- ---- The lookup's bytes: "Where an answer gives a length, its bytes are that many from its start on"
+
+-- the bytes of the answer a to the message m are those of the data d: all of an unknown option's, the first n of a kind's
+pub record OwnBytesShown (m d : List ℕ) (a : Answer) : Type 0 where
+  pub unknown-bytes : (s n : ℕ) → a ≡ Unknown s n → take n (drop s m) ≡ d
+  pub part-bytes : (k : Kind) (s n : ℕ) → a ≡ Part k s n → take n (drop s m) ≡ take n d
+
+abbrev pub ShownBytesAreTheOptions : Type 0
+ShownBytesAreTheOptions = (set : ℕ → Bool) (m : List ℕ) (c : ℕ) → IsAccepted m → (h : Holds m c) → OwnBytesShown m (h .body) (lookup kinds set m c)
+
 -- ---- The codes present: "four words marking the codes present (52 included), how many bits are set in them, and the lowest code, or 0 if none"
 
-pub record Calls (m : List ℕ) (r : Present) : Type 0 where
-  pub is-taken : r .verdict ≡ taken
+pub record PresentIs (m : List ℕ) (r : Present) : Type 0 where
+  pub is-passed : r .verdict ≡ passed
+  pub four-words : length (r .words) ≡ 4
   pub marks : (c : ℕ) → c < 256 → marked (r .words) c ≡ true ↔ Holds m c
   pub counts : r .count ≡ countOf (r .words)
   pub counts-options : (a : IsAccepted m) → r .count ≡ length (a .options)
@@ -54,7 +72,7 @@ pub record Calls (m : List ℕ) (r : Present) : Type 0 where
   pub lowest-held : Holds m (r .lowest) ⊎ ((r .lowest ≡ 0) × ((c : ℕ) → Holds m c → ⊥))
 
 abbrev pub PresentRight : Type 0
-PresentRight = (m : List ℕ) → AllBytes m → IsAccepted m → Calls m (present m)
+PresentRight = (m : List ℕ) → AllBytes m → IsAccepted m → PresentIs m (present m)
 
 -- a code is marked exactly when a lookup doesn't call it absent
 abbrev pub PresentAsLookedUp : Type 0
@@ -80,6 +98,8 @@ pub record RecordAt (s : List ℕ) (i c : ℕ) (d : List ℕ) : Type 0 where
   pub low : ℕ
   pub after : List ℕ
   pub reads : drop i s ≡ c ∷ high ∷ low ∷ (d ++ after)
+  pub high-byte : high < 256
+  pub low-byte : low < 256
   pub size : 256 * high + low ≡ length d
 
 -- a record begins at the sheet's first place, and after a whole record
@@ -105,6 +125,20 @@ RecordsInReadingOrder =
     (m : List ℕ) (a : IsAccepted m) (i j c e : ℕ) (d b : List ℕ) → Listed (recordsOf a) i c d → Listed (recordsOf a) j e b → i < j
     → (h : Holds m c) (k : Holds m e) → Earlier (heldOption h) (heldOption k)
 
+-- the last record ends where the bytes end: nothing is behind it
+abbrev pub RecordsEndToEnd : Type 0
+RecordsEndToEnd = (m : List ℕ) (a : IsAccepted m) → RecordBegins (recordsOf a) (length (recordsOf a))
+
+-- the bytes xs given in the lent sheet `old`: "the answer is their length in bytes"; "bytes of the lent sheet, .., past what is given stay";
+-- "11: lent sheet too small", with its length, and then "changes no byte"
+pub record FilledRight (xs old : List ℕ) (w : Filled) : Type 0 where
+  pub fits : length xs ≤ length old → (w .answer ≡ given (length xs)) × (take (length xs) (w .buffer) ≡ xs) × (drop (length xs) (w .buffer) ≡ drop (length xs) old)
+  pub too-small : length old < length xs → w ≡ unfilled 11 (length old) old
+  pub same-length : length (w .buffer) ≡ length old
+
+abbrev pub LentBuffer : Type 0
+LentBuffer = (xs old : List ℕ) → FilledRight xs old (filledWith xs old)
+
 -- ---- The listing: "prints the number of options walked, then code, data start and length of each"
 
 abbrev pub ListingRight : Type 0
@@ -114,13 +148,25 @@ ListingRight = (m : List ℕ) (os : List Opt) → CorrectList m os → listing m
 abbrev pub ListingRefused : Type 0
 ListingRefused = (m : List ℕ) (n p : ℕ) → First m n p → listing m ≡ refusedLine n p
 
--- a decimal number, read back digit by digit, is the number
+-- digits read one after the other, after the number n
 abbrev pub readBack : ℕ → List ℕ → ℕ
 readBack n [] = n
 readBack n (x ∷ xs) = readBack (n * 10 + (x - 48)) xs
 
-abbrev pub DecimalIsTheNumber : Type 0
-DecimalIsTheNumber = (n : ℕ) → n < 10 ^ 20 → readBack 0 (decimal n) ≡ n
+-- the bytes of the digits 0 to 9
+abbrev pub AllDigits : List ℕ → Type 0
+AllDigits [] = Unit {0}
+AllDigits (x ∷ xs) = FromTo 48 57 x × AllDigits xs
+
+-- xs is n in decimal
+pub record DecimalRight (n : ℕ) (xs : List ℕ) : Type 0 where
+  pub reads-back : readBack 0 xs ≡ n
+  pub all-digits : AllDigits xs
+  pub not-empty : xs ≡ [] → ⊥
+  pub no-leading-zero : (r : List ℕ) → xs ≡ 48 ∷ r → r ≡ []
+
+abbrev pub DecimalIsRight : Type 0
+DecimalIsRight = (n : ℕ) → n < 10 ^ 20 → DecimalRight n (decimal n)
 
 -- ---- "Address walk"
 

@@ -33,7 +33,7 @@ pub record KindRow : Type 0 where
   pub kind : Kind
   pub codes : List ℕ
 
--- a to a + n
+-- a to a + n, then cs
 abbrev pub upFrom : ℕ → ℕ → List ℕ → List ℕ
 upFrom a zero cs = a ∷ cs
 upFrom a (suc n) cs = a ∷ upFrom (suc a) n cs
@@ -197,13 +197,15 @@ unfoldable pub judged : Kind → ℕ → List ℕ → Value
 unfolding lengthFits valueFits meaning
 judged k c d = cond (lengthFits k c (length d)) (cond (valueFits k c d) (meaning k d) (broken 9)) (broken 8)
 
--- ---- A table of kinds: which codes have a row, and what the row makes of data. The theorems hold for any table.
+-- ---- A table of kinds: which codes have a row, and what the row makes of data
 
+-- AbsentIffNotHeld, ShowsWhatStands and LookupRefusedByTheTable hold for any table, and none of them asks `Proper`.
+-- Every other statement on a table is of `kinds` alone: KnownSetIndifferent, those of KindClaims, those of AnswerClaims.
 pub record Table : Type 0 where
   pub row : ℕ → Bool
   pub value : ℕ → List ℕ → Value
 
--- All that a theorem asks of a table: a part is no longer than its data.
+-- A part is no longer than its data. KindsProper says it of `kinds`, and ShownBytesAreTheOptions rests on that.
 pub record Proper (t : Table) : Type 0 where
   pub within : (c : ℕ) (d : List ℕ) (k : Kind) (n : ℕ) → t .value c d ≡ part k n → n ≤ length d
 

@@ -18,8 +18,8 @@ use Rattle.theorems.proofs.CodesPresent.{no-code-twice}
 use Rattle.wire.specs.Walk.{noState}
 use Rattle.theorems.proofs.View.{clash}
 use Rattle.theorems.proofs.Sheets.{records-is}
-use Rattle.wire.specs.declared.Walked.{Walked}
-use Rattle.wire.specs.declared.End.the-variants.{Closed, Fault}
+use Rattle.wire.specs.Walk.{Walked}
+use Rattle.wire.specs.Walk.{Closed, Fault}
 use Rattle.message.specs.Scan.{usedBy, scanOf}
 use Rattle.message.proofs.Split.{ScanAccepted, scan-refused, scan-accepted, seen-count}
 use Rattle.records.specs.declared.Given.the-variants.{Bytes, Refused}

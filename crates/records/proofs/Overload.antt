@@ -16,7 +16,7 @@ use Rattle.options.specs.ReadingClaims.{In, Precedes}
 use Rattle.theorems.proofs.Fields.{not-one}
 use Rattle.theorems.proofs.Reading.{no-row-of, listed-stands}
 use Rattle.wire.specs.Walk.{noted}
-use Rattle.wire.specs.declared.State.{State}
+use Rattle.wire.specs.Walk.{State}
 use Rattle.message.specs.Scan.{keptAll}
 use Rattle.records.specs.Fill.{room52}
 use Rattle.records.proofs.Rooms.{rooms52}

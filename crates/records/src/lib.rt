@@ -7,13 +7,12 @@ ghost use lib.Dec.{ltb};
 ghost use lib.ListN.{length};
 ghost use Rattle.options.specs.Answers as answers;
 ghost use Rattle.records.specs.Fill.{Fills, laid, Placed, fieldBytes, activeBytes, room52};
-use wire::End;
 use wire::Spot;
 
 // What is given (document 01, What is asked of a message; Numbers given on refusal): how many bytes of the buffer the records take, or a refusal.
 pub enum Given {
     Bytes(usize),
-    Refused { number: u8, place: usize },
+    Refused { number: u32, place: usize },
 }
 
 // Lays src over out from at on.
@@ -77,7 +76,7 @@ fn put_if(on: bool, f: &[u8], out: &mut [u8], at: usize) -> usize
 }
 
 // Lays the records of every active field over out from its start on, in reading order; v is the value of option 52.
-fn put_active(m: &[u8], v: u8, out: &mut [u8]) -> usize
+fn put_active(m: &[u8], v: u32, out: &mut [u8]) -> usize
     requires { ⌜ (240 ≤ length (now m)) × (length (activeBytes v (now m)) ≤ length (now out)) ⌝ }
     ensures { λ r. ⌜ Placed (now (out .entry)) 0 (activeBytes v (now (m .entry))) r (now (out .exit)) ⌝ }
 {
@@ -87,7 +86,7 @@ fn put_active(m: &[u8], v: u8, out: &mut [u8]) -> usize
 }
 
 // A buffer's length beside what all options take as records: option 52, which takes 4 bytes as one, is not written.
-fn with_52(n: usize, over: u8) -> usize
+fn with_52(n: usize, over: u32) -> usize
     requires { ⌜ n ≤ 2 ^ 63 ⌝ }
     ensures { λ r. ⌜ r ≡ n + room52 over ⌝ }
 {
@@ -98,7 +97,7 @@ fn with_52(n: usize, over: u8) -> usize
 }
 
 // Whether n bytes are too few for the records: each takes one byte more than its option does in its field.
-fn too_small(n: usize, used: usize, count: u32, over: u8) -> bool
+fn too_small(n: usize, used: usize, count: u32, over: u32) -> bool
     requires { ⌜ n ≤ 2 ^ 63 ⌝ }
     ensures { λ r. ⌜ r ≡ ltb (n + room52 over) (used + count) ⌝ }
 {
@@ -117,21 +116,20 @@ pub fn records(m: &[u8], out: &mut [u8]) -> Given
     ensures { λ r. ⌜ Fills (answers.records (now (m .entry)) (now (out .entry))) r (now (out .exit)) ⌝ }
 {
     let w = message::scan(m, 0);
-    let e = w.end;
-    match e {
-        End::Fault { number, place } => Given::Refused { number, place },
-        End::Closed => {
-            let s = w.state;
-            let seen = s.seen;
-            let v = s.over;
-            let n = out.len();
-            if too_small(n, w.used, codeset::count(seen), v) {
-                return Given::Refused {
-                    number: 11,
-                    place: n,
-                };
-            }
-            Given::Bytes(put_active(m, v, out))
-        }
+    if w.number != 0 {
+        return Given::Refused {
+            number: w.number,
+            place: w.place,
+        };
     }
+    let seen = w.seen;
+    let v = w.over;
+    let n = out.len();
+    if too_small(n, w.used, codeset::count(seen), v) {
+        return Given::Refused {
+            number: 11,
+            place: n,
+        };
+    }
+    Given::Bytes(put_active(m, v, out))
 }

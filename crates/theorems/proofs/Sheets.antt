@@ -3,20 +3,23 @@ use mathlib.Core.Path.{_≡_, refl, sym, ap, ap₂, _∙_, subst}
 use mathlib.Core.List.{List, [], _∷_, _++_}
 use mathlib.Core.Bool.{Bool, true, false, cond}
 use mathlib.Core.Logic.{_⊎_, inl, inr, ⊎-elim}
-use Prim.Native.Nat.{ℕ, suc, _+_, _/_, _%_, _≤_, _<_}
+use Prim.Native.Nat.{ℕ, suc, _+_, _-_, _/_, _%_, _≤_, _<_}
 use native.Mathlib.Omega.{arith}
-use lib.ListN.{length, take, drop}
+use native.Mathlib.Decide.{decLt}
+use lib.ListN.{length, take, drop, length-take, length-drop, length-append}
 use lib.Seq.{drop-drop, drop-at, take-at}
 use lib.Dec.{eqb}
-use borrow.Author.Tests.{eqb-true, eqb-false}
-use Rattle.options.specs.Message.{Rec, Opt, Holds, heldOption}
+use borrow.Author.Tests.{eqb-true, eqb-false, lt-ltb, le-ltb}
+use Rattle.options.specs.Message.{Field, options, file, sname, bytes, longest, Rec, Opt, Holds, heldOption}
+use Rattle.options.specs.Refusals.{row-2}
 use Rattle.options.specs.Reading.{Reading, accepted, items, readMessage}
-use Rattle.options.specs.Answers.{recordBytes, but52, recordsIn, records}
+use Rattle.options.specs.Answers.{recordBytes, but52, given, unfilled, recordsIn, records}
 use Rattle.options.specs.ReadingClaims.{IsAccepted, In, Precedes}
-use Rattle.options.specs.AnswerClaims.{RecordsRight, RecordsRefused, RecordAt, RecordBegins, first, after-record, Listed, recordsOf, RecordsHoldTheOptions, RecordsInReadingOrder}
+use Rattle.options.specs.AnswerClaims.{RecordsRight, RecordsRefused, RecordAt, RecordBegins, first, after-record, Listed, recordsOf, RecordsHoldTheOptions, RecordsInReadingOrder, RecordsEndToEnd, FilledRight, LentBuffer}
 use Rattle.theorems.proofs.View.{clash}
+use Rattle.theorems.proofs.Fields.{option-in}
 use Rattle.theorems.proofs.Messages.{precedes-in}
-use Rattle.theorems.proofs.Reading.{listed-in-order, held, holds-in, stands-once, refused-by-the-table, reading-is-correct}
+use Rattle.theorems.proofs.Reading.{no-row-of, listed-stands, listed-in-order, held, holds-in, stands-once, refused-by-the-table, reading-is-correct}
 
 pub records-is : (m : List ℕ) {w : Reading} (old : List ℕ) → readMessage m ≡ w → records m old ≡ recordsIn w old
 unfolding records
@@ -76,9 +79,18 @@ data Rows (s : List ℕ) : ℕ → List Opt → Type 0 where
       → Rows s i (o ∷ os)
 
 module _ (s : List ℕ) where
-  pub record-first : (i : ℕ) (r : Rec) (rs : List Rec) → drop i s ≡ recordBytes (r ∷ rs) → RecordAt s i (r .tag) (r .body)
+  pub record-first : (i : ℕ) (r : Rec) (rs : List Rec) → length (r .body) < 65536 → drop i s ≡ recordBytes (r ∷ rs) → RecordAt s i (r .tag) (r .body)
   unfolding recordBytes
-  record-first i r rs e = record { high = length (r .body) / 256; low = length (r .body) % 256; after = recordBytes rs; reads = e; size = omega arith }
+  record-first i r rs l e =
+      record {
+        high = length (r .body) / 256;
+        low = length (r .body) % 256;
+        after = recordBytes rs;
+        reads = e;
+        high-byte = omega arith;
+        low-byte = omega arith;
+        size = omega arith;
+      }
 
   pub records-next : (i : ℕ) (r : Rec) (rs : List Rec) → drop i s ≡ recordBytes (r ∷ rs) → drop (i + 3 + length (r .body)) s ≡ recordBytes rs
   unfolding recordBytes
@@ -87,17 +99,39 @@ module _ (s : List ℕ) where
       ap (λ (k : ℕ). drop k s) q ∙ sym (drop-drop (suc (suc (suc (length (r .body))))) i s) ∙ ap (drop (suc (suc (suc (length (r .body)))))) e
       ∙ drop-at (r .body) (recordBytes rs) (length (r .body)) refl
 
-  rows : (i : ℕ) (os : List Opt) → drop i s ≡ recordBytes (but52 (items os)) → Rows s i os
+  rows : (i : ℕ) (os : List Opt) → ((o : Opt) → In o os → length (o .item .body) < 65536) → drop i s ≡ recordBytes (but52 (items os)) → Rows s i os
   unfolding items but52 recordBytes
-  rows i [] e = no-more e
-  rows i (o ∷ os) e = go (eqb (o .item .tag) 52) refl e (λ j. rows j os)
+  rows i [] l e = no-more e
+  rows i (o ∷ os) l e = go (eqb (o .item .tag) 52) refl e (λ j. rows j os (λ q h. l q (inr h)))
     where
       go : (t : Bool) → eqb (o .item .tag) 52 ≡ t → drop i s ≡ recordBytes (cond t (but52 (items os)) (o .item ∷ but52 (items os)))
           → ((j : ℕ) → drop j s ≡ recordBytes (but52 (items os)) → Rows s j os) → Rows s i (o ∷ os)
       go true q e ih = without (eqb-true (o .item .tag) 52 q) (ih i e)
       go false q e ih =
           let r : List Rec = but52 (items os) in
-          one-more (eqb-false (o .item .tag) 52 q) (record-first i (o .item) r e) (ih (i + 3 + length (o .item .body)) (records-next i (o .item) r e))
+          one-more (eqb-false (o .item .tag) 52 q) (record-first i (o .item) r (l o (inl refl)) e) (ih (i + 3 + length (o .item .body)) (records-next i (o .item) r e))
+
+-- ---- Nothing is behind the last record
+
+module _ {s : List ℕ} where
+  record-in : {i c : ℕ} {d : List ℕ} → RecordAt s i c d → i + 3 + length d ≤ length s
+  record-in {i} {c} {d} r =
+      let e : length s - i ≡ suc (suc (suc (length (d ++ r .after)))) = simp length-drop at (ap length (r .reads)) in
+      omega (arith, length-append d (r .after))
+
+  begins-in : {i : ℕ} → RecordBegins s i → i ≤ length s
+  begins-in first = omega arith
+  begins-in (after-record b r) = record-in r
+
+  ends-whole : {i : ℕ} {os : List Opt} → Rows s i os → RecordBegins s i → RecordBegins s (length s)
+  ends-whole {i} (no-more e) b =
+      let n : length s - i ≡ 0 = simp length-drop at (ap length e) in
+      let z : i ≡ length s = omega (arith, begins-in b) in
+      subst (RecordBegins s) z b
+  ends-whole (without e w) b = ends-whole w b
+  ends-whole (one-more n r w) b = ends-whole w (after-record b r)
+
+-- ---- The option of a record, and the record of an option
 
 -- the option that a record is for
 record OptionOf (c : ℕ) (d : List ℕ) (os : List Opt) : Type 0 where
@@ -160,9 +194,21 @@ module _ {s : List ℕ} where
 
 -- ---- The records of an accepted message
 
+field-le : (fd : Field) (m : List ℕ) → length (bytes fd m) ≤ length m
+field-le options m = omega (arith, length-drop 240 m)
+field-le file m = omega (arith, length-take 128 (drop 108 m), length-drop 108 m)
+field-le sname m = omega (arith, length-take 64 (drop 44 m), length-drop 44 m)
+
 module _ (m : List ℕ) (a : IsAccepted m) where
+  -- data lies within a message of at most 1,472 bytes
+  body-short : (o : Opt) → In o (a .options) → length (o .item .body) < 65536
+  body-short o i = elim (decLt longest (length m)) [
+    | yes h ↦ absurd (no-row-of (a .reads) _ _ _ (row-2 h))
+    | no h ↦ omega (arith, option-in (listed-stands (a .reads) o i .stands .option), field-le (o .field) m)
+  ]
+
   message-rows : Rows (recordsOf a) 0 (a .options)
-  message-rows = rows (recordsOf a) 0 (a .options) refl
+  message-rows = rows (recordsOf a) 0 (a .options) body-short refl
 
   -- a listed option is the one held
   held-is : {c : ℕ} (o : Opt) → In o (a .options) → c ≡ o .item .tag → (h : Holds m c) → heldOption h ≡ o
@@ -187,3 +233,27 @@ records-in-reading-order m a i j c e d b l r less h k =
     let x = options-of (message-rows m a) (begins-from (l .begins)) (l .is-record) (begins-from (r .begins)) (r .is-record) less in
     let i = precedes-in (x .one) (x .other) (a .options) (x .ordered) in
     rw (held-is m a (x .one) (i .0) (x .code) h, held-is m a (x .other) (i .1) (x .other-code) k) (listed-in-order m (a .reads) (x .one) (x .other) (x .ordered))
+
+pub records-end-to-end : RecordsEndToEnd
+records-end-to-end m a = ends-whole (message-rows m a) first
+
+-- ---- The lent sheet
+
+filled-right : (xs old : List ℕ) → length xs ≤ length old → FilledRight xs old (record { answer = given (length xs); buffer = xs ++ drop (length xs) old })
+filled-right xs old h =
+    record {
+      fits = λ l. (refl, take-at xs (drop (length xs) old) (length xs) refl, drop-at xs (drop (length xs) old) (length xs) refl);
+      too-small = λ l. absurd (omega arith);
+      same-length = omega (arith, length-append xs (drop (length xs) old), length-drop (length xs) old);
+    }
+
+unfilled-right : (xs old : List ℕ) → length old < length xs → FilledRight xs old (unfilled 11 (length old) old)
+unfilled-right xs old h = record { fits = λ l. absurd (omega arith); too-small = λ l. refl; same-length = refl }
+
+pub lent-buffer : LentBuffer
+lent-buffer xs old = elim (decLt (length old) (length xs)) [
+  | yes h ↦ rw (lt-ltb (length old) (length xs) h) (unfilled-right xs old h)
+  | no h ↦
+      let l : length xs ≤ length old = omega arith in
+      rw (le-ltb (length old) (length xs) l) (filled-right xs old l)
+]

@@ -8,13 +8,13 @@ use native.Mathlib.Omega.{arith}
 use lib.Dec.{eqb, ltb, leb}
 use lib.ListN.{length, getD, take, drop, length-drop, drop-of-length-le}
 use lib.Seq.{drop-cons, drop-drop, length-take-le, getD-take, getD-drop}
-use borrow.Author.Tests.{eq-eqb, ne-eqb, lt-ltb, le-ltb}
+use borrow.Author.Tests.{eq-eqb, ne-eqb, eqb-false, lt-ltb, le-ltb}
 use Rattle.options.specs.Message.{Field, start, turn, Rec}
 use Rattle.options.specs.Reading.{Parse, ended, ranOut, beyond, found, right52, parse}
-use Rattle.wire.specs.Walk.{itemAt, overWrong, stopped, sizeOf, hitAfter, atAfter, hitAt, noted, walkOf, walkField, Walks}
-use Rattle.wire.specs.declared.State.{State}
-use Rattle.wire.specs.declared.Walked.{Walked}
-use Rattle.wire.specs.declared.Hit.{Hit}
+use Rattle.wire.specs.Walk.{itemAt, overWrong, walkedOf, stopAt, stopped, sizeOf, hitAfter, atAfter, hitAt, noted, walkOf, walkField, Walks}
+use Rattle.wire.specs.Walk.{State}
+use Rattle.wire.specs.declared.Walked as flat
+use Rattle.wire.specs.Walk.{Hit}
 use Rattle.options.specs.CodeSet.{marked}
 
 -- passing n bytes of data
@@ -135,13 +135,16 @@ module _ (first t want : ℕ) (s : State) (z i : ℕ) (x : Rec) (p : Parse) wher
 
 -- ---- the end of the walk: what it gives is the field's, whose first byte and turn it was told
 
-module _ (fd : Field) (first t want : ℕ) (st : State) (f : List ℕ) (w : Walked) (e : first ≡ start fd) (q : t ≡ turn fd) where
-  pub walk-ends : w ≡ walkOf first t want st 0 (rest f 0) → w .used ≤ length f → Walks f (walkField fd want st f) w
+module _ (fd : Field) (first t want : ℕ) (st : State) (f : List ℕ) (w : flat.Walked) (e : first ≡ start fd) (q : t ≡ turn fd) where
+  pub walk-ends : walkedOf w ≡ walkOf first t want st 0 (rest f 0) → w .used ≤ length f → (w .number ≡ 0 → w .place ≡ 0) → Walks f (walkField fd want st f) w
   unfolding walkField
-  walk-ends h l = record { is = rw (← e, ← q) h; within = l }
+  walk-ends h l z = record { is = rw (← e, ← q) h; within = l; no-place = z }
 
-  pub walk-stops : (n p : ℕ) → w ≡ stopped n p → stopped n p ≡ walkOf first t want st 0 (rest f 0) → Walks f (walkField fd want st f) w
-  walk-stops n p h k = walk-ends (h ∙ k) (let z : w .used ≡ 0 = ap (λ (x : Walked). x .used) h in omega arith)
+  pub walk-stops : (n p : ℕ) → w ≡ stopAt n p → eqb n 0 ≡ false → stopped n p ≡ walkOf first t want st 0 (rest f 0) → Walks f (walkField fd want st f) w
+  walk-stops n p h z k =
+      let s : walkedOf (stopAt n p) ≡ stopped n p = rw z in
+      walk-ends (ap walkedOf h ∙ s ∙ k) (let y : w .used ≡ 0 = ap (λ (x : flat.Walked). x .used) h in omega arith)
+      (λ y. absurd (eqb-false n 0 z (ap (λ (x : flat.Walked). x .number) (sym h) ∙ y)))
 
 -- ---- the wanted code, kept as an offset
 

@@ -11,17 +11,48 @@ use Rattle.options.specs.Reading.{Parse, ended, ranOut, beyond, found, parse, r
 use Rattle.options.specs.CodeSet.{marked, withMark}
 use Rattle.wire.specs.declared.Field.{Field}
 use Rattle.wire.specs.declared.Field.the-variants.{Options, File, Sname}
-use Rattle.wire.specs.declared.Hit.{Hit}
-use Rattle.wire.specs.declared.State.{State}
-use Rattle.wire.specs.declared.End.{End}
-use Rattle.wire.specs.declared.End.the-variants.{Closed, Fault}
-use Rattle.wire.specs.declared.Walked.{Walked}
+use Rattle.wire.specs.declared.Walked as flat
 
 -- the fields, case by case
 abbrev pub fieldOf : Field → message.Field
 fieldOf Options = options
 fieldOf File = file
 fieldOf Sname = sname
+
+-- where the wanted code stands: the turn of its field (0: not met), its offset there and the length of its data
+pub record Hit : Type 0 where
+  pub field : ℕ
+  pub offset : ℕ
+  pub len : ℕ
+
+-- what is kept of the options met: the set of their codes, the wanted one, and the value of option 52 (0: not met)
+pub record State : Type 0 where
+  pub seen : List ℕ
+  pub hit : Hit
+  pub over : ℕ
+
+-- how a walk ended: with END, or with a refusal's number and place in the message
+pub data End : Type 0 where
+  Closed : End
+  Fault : (number place : ℕ) → End
+
+pub record Walked : Type 0 where
+  pub state : State
+  pub used : ℕ
+  pub end : End
+
+-- what the code's flat struct says; number 0 is no refusal
+abbrev pub endOf : ℕ → ℕ → End
+endOf n p = cond (eqb n 0) Closed (Fault n p)
+
+abbrev pub hitOf : flat.Walked → Hit
+hitOf r = record { field = r .field; offset = r .offset; len = r .len }
+
+abbrev pub walkedOf : flat.Walked → Walked
+walkedOf r = record { state = record { seen = r .seen; hit = hitOf r; over = r .over }; used = r .used; end = endOf (r .number) (r .place) }
+
+abbrev pub stopAt : ℕ → ℕ → flat.Walked
+stopAt n p = record { seen = replicate 4 0; offset = 0; used = 0; place = p; field = 0; len = 0; over = 0; number = n }
 
 abbrev pub noHit : Hit
 noHit = record { field = 0; offset = 0; len = 0 }
@@ -50,6 +81,9 @@ itemAt c n f i = record { tag = c; body = take n (drop (i + 2) f) }
 -- 6: an option 52 that is refused in the field with turn t
 abbrev pub overWrong : ℕ → Rec → Bool
 overWrong t x = cond (eqb (x .tag) 52) (cond (eqb t 1) (not (right52 (x .body))) true) false
+
+abbrev pub closedAt : List ℕ → ℕ → ℕ → Hit → List ℕ → ℕ → ℕ → Walked
+closedAt f t at h seen over used = record { state = record { seen = seen; hit = hitAt f t h at; over = over }; used = used; end = Closed }
 
 -- the value of option 52, the first that stands
 abbrev pub overAfter : ℕ → Rec → ℕ
@@ -80,7 +114,8 @@ unfoldable pub walkField : message.Field → ℕ → State → List ℕ → Walk
 unfolding walkOf parse
 walkField fd want s f = walkOf (start fd) (turn fd) want s 0 (parse 0 0 f)
 
--- r is w, and its options are within the field
-pub record Walks (f : List ℕ) (w r : Walked) : Type 0 where
-  pub is : r ≡ w
+-- r is w, its options are within the field, and without a refusal there is no place
+pub record Walks (f : List ℕ) (w : Walked) (r : flat.Walked) : Type 0 where
+  pub is : walkedOf r ≡ w
   pub within : r .used ≤ length f
+  pub no-place : r .number ≡ 0 → r .place ≡ 0

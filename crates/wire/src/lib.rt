@@ -4,7 +4,7 @@ ghost use Prim.Native.Nat.{_+_, _*_, _<_, _≤_, _/_};
 ghost use lib.ListN.{length, getD, drop};
 ghost use Rattle.options.specs.Message.{start, turn};
 ghost use Rattle.options.specs.Reading.{parse};
-ghost use Rattle.wire.specs.Walk.{fieldOf, stopped, noState, walkField, atAfter, hitAt, overWrong, overAfter, Walks, itemAt};
+ghost use Rattle.wire.specs.Walk.{fieldOf, stopAt, walkedOf, closedAt, walkField, atAfter, overWrong, overAfter, Walks, itemAt};
 ghost use Rattle.wire.specs.Ahead.{nextOf};
 
 pub enum Field {
@@ -13,56 +13,33 @@ pub enum Field {
     Sname,
 }
 
-// Where the wanted code stands: the turn of its field (1 options, 2 file, 3 sname; 0: not met), its offset there and the length of its data.
-pub struct Hit {
-    pub field: u8,
-    pub offset: usize,
-    pub len: usize,
-}
-
-// What is kept of the options met: the set of their codes, the wanted one, and the value of option 52 (0: not met).
-pub struct State {
-    pub seen: [u64; 4],
-    pub hit: Hit,
-    pub over: u8,
-}
-
-// How a walk ended: with END, or with a refusal's number and place in the message.
-pub enum End {
-    Closed,
-    Fault { number: u8, place: usize },
-}
-
-// `used` is how many bytes of the field its options take, pads and END not counted.
+// What a walk gives: the set of the codes met; where the wanted one stands, by the turn of its field (1 options, 2 file, 3 sname; 0: not met),
+// its offset there and the length of its data; the value of option 52 (0: not met); how many bytes of the fields the options take, pads and END not
+// counted; and number and place of a refusal (0: none). Flat, and with no gap between its numbers, since it is copied at each call.
 pub struct Walked {
-    pub state: State,
+    pub seen: [u64; 4],
+    pub offset: usize,
     pub used: usize,
-    pub end: End,
+    pub place: usize,
+    pub field: u32,
+    pub len: u32,
+    pub over: u32,
+    pub number: u32,
 }
 
-// Nothing met yet.
-pub fn fresh() -> State
-    ensures { λ r. ⌜ r ≡ noState ⌝ }
-{
-    State {
-        seen: [0; 4],
-        hit: Hit {
-            field: 0,
-            offset: 0,
-            len: 0,
-        },
-        over: 0,
-    }
-}
-
-// A refusal: nothing is told of what was met before it.
-pub fn stop(number: u8, place: usize) -> Walked
-    ensures { λ r. ⌜ r ≡ stopped number place ⌝ }
+// A refusal: nothing is told of what was met before it. With number 0: nothing met yet.
+pub fn stop(number: u32, place: usize) -> Walked
+    ensures { λ r. ⌜ r ≡ stopAt number place ⌝ }
 {
     Walked {
-        state: fresh(),
+        seen: [0; 4],
+        offset: 0,
         used: 0,
-        end: End::Fault { number, place },
+        place,
+        field: 0,
+        len: 0,
+        over: 0,
+        number,
     }
 }
 
@@ -77,7 +54,7 @@ pub fn base(field: Field) -> usize
     }
 }
 
-fn turn_of(field: Field) -> u8
+fn turn_of(field: Field) -> u32
     ensures { λ r. ⌜ r ≡ turn (fieldOf field) ⌝ }
 {
     match field {
@@ -107,31 +84,59 @@ fn at_after(at: usize, want: u8, c: u8, i: usize) -> usize
     if c == want { i } else { at }
 }
 
-// The wanted code, where it stands at an offset of this field; else as it was before.
-fn hit_at(f: &[u8], turn: u8, at: usize, before: Hit) -> Hit
-    ensures { λ r. ⌜ r ≡ hitAt (now (f .entry)) turn before at ⌝ }
+fn byte32(x: u8) -> u32
+    ensures { λ r. ⌜ r ≡ x ⌝ }
+{
+    x as u32
+}
+
+// The byte at an offset, or 0 past the field.
+fn byte_at(f: &[u8], i: usize) -> u8
+    ensures { λ r. ⌜ r ≡ getD (now (f .entry)) i 0 ⌝ }
+{
+    if i < f.len() { f[i] } else { 0 }
+}
+
+// A field that has its END: the wanted code stands at an offset of it, or where it stood before.
+fn close(
+    f: &[u8],
+    turn: u32,
+    at: usize,
+    before: Walked,
+    seen: [u64; 4],
+    over: u32,
+    used: usize,
+) -> Walked
+    ensures { λ r. ⌜ (walkedOf r ≡ closedAt (now (f .entry)) turn at (walkedOf before .state .hit) seen over used) × (r .used ≡ used) × (r .place ≡ 0) ⌝ }
 {
     if at < f.len() {
-        let n = f.len() - at;
-        if n < 2 {
-            return Hit {
-                field: turn,
-                offset: at,
-                len: 0,
-            };
-        }
-        let k = at + 1;
-        return Hit {
-            field: turn,
+        let len = byte32(byte_at(f, at + 1));
+        return Walked {
+            seen,
             offset: at,
-            len: wide(f[k]),
+            used,
+            place: 0,
+            field: turn,
+            len,
+            over,
+            number: 0,
         };
     }
-    before
+    let offset = before.offset;
+    Walked {
+        seen,
+        offset,
+        used,
+        place: 0,
+        field: before.field,
+        len: before.len,
+        over,
+        number: 0,
+    }
 }
 
 // Whether the option with code c at i, whose n data bytes are within the field, is an option 52 that is refused.
-fn over_wrong(turn: u8, f: &[u8], i: usize, c: u8, n: usize) -> bool
+fn over_wrong(turn: u32, f: &[u8], i: usize, c: u8, n: usize) -> bool
     requires { ⌜ i + 2 + n ≤ length (now f) ⌝ }
     ensures { λ r. ⌜ r ≡ overWrong turn (itemAt c n (now (f .entry)) i) ⌝ }
 {
@@ -155,7 +160,7 @@ fn over_wrong(turn: u8, f: &[u8], i: usize, c: u8, n: usize) -> bool
 }
 
 // The value of option 52 after that option; the first one stands.
-fn over_after(f: &[u8], i: usize, c: u8, n: usize, over: u8) -> u8
+fn over_after(f: &[u8], i: usize, c: u8, n: usize, over: u32) -> u32
     requires { ⌜ i + 2 + n ≤ length (now f) ⌝ }
     ensures { λ r. ⌜ r ≡ overAfter over (itemAt c n (now (f .entry)) i) ⌝ }
 {
@@ -168,16 +173,15 @@ fn over_after(f: &[u8], i: usize, c: u8, n: usize, over: u8) -> u8
     if n == 0 {
         return 0;
     }
-    f[i + 2]
+    byte32(f[i + 2])
 }
 
-// Walks a field, and keeps of it what the state says, on top of what was kept of the fields before.
-pub fn walk(field: Field, f: &[u8], want: u8, st: State) -> Walked
-    ensures { λ r. ⌜ Walks (now (f .entry)) (walkField (fieldOf field) want st (now (f .entry))) r ⌝ }
+// Walks a field, and keeps of it what `Walked` says, on top of what was kept of the fields before.
+pub fn walk(field: Field, f: &[u8], want: u8, st: Walked) -> Walked
+    ensures { λ r. ⌜ Walks (now (f .entry)) (walkField (fieldOf field) want (walkedOf st .state) (now (f .entry))) r ⌝ }
 {
     let first = base(field);
     let turn = turn_of(field);
-    let held = st.hit;
     let mut seen = st.seen;
     let mut over = st.over;
     let mut at = f.len();
@@ -190,12 +194,7 @@ pub fn walk(field: Field, f: &[u8], want: u8, st: State) -> Walked
             i = i + 1;
         } else {
             if c == 255 {
-                let hit = hit_at(f, turn, at, held);
-                return Walked {
-                    state: State { seen, hit, over },
-                    used: i - pads,
-                    end: End::Closed,
-                };
+                return close(f, turn, at, st, seen, over, i - pads);
             }
             let j = i + 1;
             if f.len() <= j {

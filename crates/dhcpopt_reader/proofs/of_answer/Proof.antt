@@ -24,9 +24,6 @@ of-part-requires-2 c κs = search needs
 enum-known-a-2 : tie.Need-enum-known-a-2
 enum-known-a-2 c = search needs
 
-cast-t23 : tie.Need-cast-t23
-cast-t23 c = search needs
-
 enum-known-a-3 : tie.Need-enum-known-a-3
 enum-known-a-3 c = search needs
 
@@ -184,7 +181,6 @@ of-answer-spec =
     enum-known-a
     of-part-requires-2
     enum-known-a-2
-    cast-t23
     enum-known-a-3
     from-unsigned-requires
     of-number-requires

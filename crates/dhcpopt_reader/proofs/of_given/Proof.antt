@@ -9,9 +9,6 @@ enum-known-g c = search needs
 enum-known-g-2 : tie.Need-enum-known-g-2
 enum-known-g-2 c = search needs
 
-cast-t6 : tie.Need-cast-t6
-cast-t6 c = search needs
-
 returns : tie.Need-returns
 returns c = rw (c .before .g .given .1)
 
@@ -19,4 +16,4 @@ returns-2 : tie.Need-returns-2
 returns-2 c = rw (c .before .g2 .given .1)
 
 pub of-given-spec : {M : Type 1} → statement M
-of-given-spec = tie.close (tie.spec enum-known-g enum-known-g-2 cast-t6 returns returns-2)
+of-given-spec = tie.close (tie.spec enum-known-g enum-known-g-2 returns returns-2)

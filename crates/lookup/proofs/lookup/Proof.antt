@@ -1,12 +1,14 @@
 -- `lookup::lookup` meets its contract. Assumes nothing.
 use borrow.Author.Needs.{needs}
-use mathlib.Core.Path.{_≡_, sym, ap, _∙_}
+use mathlib.Core.Path.{_≡_, refl, _∙_}
+use borrow.Author.Tests.{eq-eqb, ne-eqb}
 use Rattle.options.specs.KindClaims.{AllBytes}
 use Rattle.options.specs.Reading.{accepted, refused}
+use Rattle.wire.specs.Walk.{walkedOf}
 use Rattle.message.proofs.Bridge.{all-bytes}
 use Rattle.message.proofs.Split.{scan-refused, scan-accepted}
 use Rattle.options.specs.CodeSet.{marked}
-use Rattle.lookup.proofs.Laws.{offset-small, found-is, lookup-zero, lookup-end, lookup-read}
+use Rattle.lookup.proofs.Laws.{offset-small, data-within, found-is, lookup-zero, lookup-end, lookup-read}
 use Rattle.lookup.proofs.lookup.Statement.{statement}
 use Rattle.lookup.proofs.lookup.Tie as tie
 
@@ -19,47 +21,33 @@ returns-2 c = lookup-end (c .before .before .before .args .m .now) (c .before .b
 scan-requires : tie.Need-scan-requires
 scan-requires c κs = search needs
 
-enum-known-e : tie.Need-enum-known-e
-enum-known-e c = search needs
-
-enum-told : tie.Need-enum-told
-enum-told c = search needs
+returns-3 : tie.Need-returns-3
+returns-3 c =
+    let s = c .before .before .before .before .before .before in
+    let m = s .args .m .now in
+    let w = c .before .before .scan .result in
+    let e = scan-refused (s .args .code) m (walkedOf w) (w .number) (w .place) (c .before .before .scan .ensures .is) (rw (ne-eqb _ _ (c .if3 .taken)) refl) in
+    lookup-read m (s .args .code) (marked (s .args .known)) (refused (w .number) (w .place)) (c .before .before .before .before .if1 .left) (c .before .before .before .if2 .left) e
 
 found-requires : tie.Need-found-requires
 found-requires c κs =
-    let s = c .before .before .before .before .before .before .before .before in
+    let s = c .before .before .before .before .before .before in
     let m = s .args .m .now in
-    let r = c .before .before .before .before .scan .result in
-    let k : AllBytes m = all-bytes m (λ i. c .before .before .before .before .before .before .before .shared-slice-known .given i .fits) in
-    let a = scan-accepted (s .args .code) m r k (c .before .before .before .before .scan .ensures) (c .before .before .enum-told .given .1) in
-    offset-small (s .args .code) m r (a .0) (a .1)
-
-returns-3 : tie.Need-returns-3
-returns-3 c =
-    let s = c .before .before .before .before .before .before .before in
-    let m = s .args .m .now in
-    let r = c .before .before .before .scan .result in
-    lookup-read m (s .args .code) (marked (s .args .known)) (refused _ _) (c .before .before .before .before .before .if1 .left) (c .before .before .before .before .if2 .left) (scan-refused (s .args .code) m r _ _ (c .before .before .before .scan .ensures) (c .before .e .given .1))
+    let r = walkedOf (c .before .before .scan .result) in
+    let k : AllBytes m = all-bytes m (λ i. c .before .before .before .before .before .shared-slice-known .given i .fits) in
+    let a = scan-accepted (s .args .code) m r k (c .before .before .scan .ensures .is) (rw (eq-eqb _ _ (c .if3 .left)) refl) in
+    (offset-small (s .args .code) m r (a .0) (a .1), data-within (s .args .code) m r (a .0) (a .1))
 
 returns-4 : tie.Need-returns-4
 returns-4 c =
-    let s = c .before .before .before .before .before .before .before .before .before in
+    let s = c .before .before .before .before .before .before .before in
     let m = s .args .m .now in
-    let r = c .before .before .before .before .before .scan .result in
-    let k : AllBytes m = all-bytes m (λ i. c .before .before .before .before .before .before .before .before .shared-slice-known .given i .fits) in
-    let a = scan-accepted (s .args .code) m r k (c .before .before .before .before .before .scan .ensures) (c .before .before .before .enum-told .given .1) in
+    let r = walkedOf (c .before .before .before .scan .result) in
+    let k : AllBytes m = all-bytes m (λ i. c .before .before .before .before .before .before .shared-slice-known .given i .fits) in
+    let a = scan-accepted (s .args .code) m r k (c .before .before .before .scan .ensures .is) (rw (eq-eqb _ _ (c .before .if3 .left)) refl) in
     c .found .ensures ∙ found-is (s .args .code) m r (a .0) (a .1) (marked (s .args .known))
-    ∙ lookup-read m (s .args .code) (marked (s .args .known)) (accepted (a .0)) (c .before .before .before .before .before .before .before .if1 .left) (c .before .before .before .before .before .before .if2 .left) (a .1 .reads)
+    ∙ lookup-read m (s .args .code) (marked (s .args .known)) (accepted (a .0)) (c .before .before .before .before .before .if1 .left) (c .before .before .before .before .if2 .left) (a .1 .reads)
 
 pub lookup-spec : {M : Type 1} → statement M
 lookup-spec =
-    tie.close
-    (tie.spec
-    returns
-    returns-2
-    scan-requires
-    enum-known-e
-    enum-told
-    found-requires
-    returns-3
-    returns-4)
+    tie.close (tie.spec returns returns-2 scan-requires returns-3 found-requires returns-4)

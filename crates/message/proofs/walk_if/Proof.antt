@@ -2,20 +2,18 @@
 use borrow.Author.Needs.{needs}
 use mathlib.Core.Path.{refl}
 use native.Mathlib.Omega.{arith}
-use borrow.Author.Tests.{not-true, not-false}
+use borrow.Author.Tests.{eq-eqb, ne-eqb, not-true, not-false}
 use Rattle.message.specs.Scan.{walkIf}
 use Rattle.message.proofs.walk_if.Statement.{statement}
 use Rattle.message.proofs.walk_if.Tie as tie
 
 returns : tie.Need-returns
 unfolding walkIf
-returns c = record { is = rw (not-true (c .before .before .args .on) (c .if1 .taken)) refl; within = omega arith }
+returns c = record { is = rw (not-true (c .before .before .args .on) (c .if1 .taken)) refl; within = omega arith; no-place = c .before .before .pre .2 }
 
-enum-told : tie.Need-enum-told
-enum-told c = search needs
-
-enum-told-2 : tie.Need-enum-told-2
-enum-told-2 c = search needs
+returns-2 : tie.Need-returns-2
+unfolding walkIf
+returns-2 c = record { is = rw (not-false (c .before .before .before .before .args .on) (c .before .before .if1 .left), ne-eqb _ _ (c .if2 .taken)) refl; within = omega arith; no-place = c .before .before .before .before .pre .2 }
 
 walk-requires : tie.Need-walk-requires
 walk-requires c κs = search needs
@@ -23,20 +21,14 @@ walk-requires c κs = search needs
 join-requires : tie.Need-join-requires
 join-requires c κs = search needs
 
-returns-2 : tie.Need-returns-2
-unfolding walkIf
-returns-2 c = record { is = rw (not-false (c .before .before .before .before .args .on) (c .before .before .if1 .left), c .enum-told .given .1) refl; within = omega arith }
-
 returns-3 : tie.Need-returns-3
 unfolding walkIf
 returns-3 c =
-    let s = c .before .before .before .before .before .before .before in
     record {
-      is = rw (not-false (c .before .before .before .before .before .before .before .args .on) (c .before .before .before .before .before .if1 .left), c .before .before .before .enum-told2 .given .1, ← c .before .walk .ensures .is) (c .join .ensures .0);
+      is = rw (not-false (c .before .before .before .before .before .before .args .on) (c .before .before .before .before .if1 .left), eq-eqb _ _ (c .before .before .if2 .left), ← c .before .walk .ensures .is) (c .join .ensures .0);
       within = omega (arith, c .join .ensures .1, c .before .walk .ensures .within);
+      no-place = c .join .ensures .2;
     }
 
 pub walk-if-spec : {M : Type 1} → statement M
-walk-if-spec =
-    tie.close
-    (tie.spec returns enum-told enum-told-2 walk-requires join-requires returns-2 returns-3)
+walk-if-spec = tie.close (tie.spec returns returns-2 walk-requires join-requires returns-3)

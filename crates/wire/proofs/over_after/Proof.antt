@@ -1,8 +1,8 @@
 -- `wire::over_after` meets its contract. Assumes nothing.
 use borrow.Author.Needs.{needs}
-use borrow.Author.Tests.{eq-eqb, ne-eqb}
 use native.Mathlib.Omega.{arith}
 use Prim.Native.Nat.{_<_}
+use borrow.Author.Tests.{eq-eqb, ne-eqb}
 use Rattle.wire.proofs.Laws.{body-first}
 use Rattle.wire.proofs.over_after.Statement.{statement}
 use Rattle.wire.proofs.over_after.Tie as tie
@@ -16,18 +16,29 @@ returns-2 c = rw (eq-eqb _ _ (c .before .if1 .left), ne-eqb _ _ (c .if2 .taken))
 returns-3 : tie.Need-returns-3
 returns-3 c = rw (eq-eqb _ _ (c .before .before .if1 .left), eq-eqb _ _ (c .before .if2 .left), c .if3 .taken)
 
-add-result : tie.Need-add-result
-add-result c = search needs
+add-byte32 : tie.Need-add-byte32
+add-byte32 c = search needs
 
-shared-slice-read-result : tie.Need-shared-slice-read-result
-shared-slice-read-result c = search needs
+shared-slice-read-byte32 : tie.Need-shared-slice-read-byte32
+shared-slice-read-byte32 c = search needs
+
+byte32-requires : tie.Need-byte32-requires
+byte32-requires c κs = search needs
 
 returns-4 : tie.Need-returns-4
 returns-4 c =
-    let a = c .before .before .before .before .args in
-    let h : 0 < a .n = omega (arith, c .before .if3 .left) in
-    rw (eq-eqb _ _ (c .before .before .before .if1 .left), eq-eqb _ _ (c .before .before .if2 .left), body-first (a .f .now) (a .i) (a .n) h)
+    let a = c .before .before .before .before .before .before .args in
+    let h : 0 < a .n = omega (arith, c .before .before .if3 .left) in
+    rw (eq-eqb _ _ (c .before .before .before .before .if1 .left), eq-eqb _ _ (c .before .before .before .if2 .left), body-first (a .f .now) (a .i) (a .n) h, c .byte32 .ensures)
 
 pub over-after-spec : {M : Type 1} → statement M
 over-after-spec =
-    tie.close (tie.spec returns returns-2 returns-3 add-result shared-slice-read-result returns-4)
+    tie.close
+    (tie.spec
+    returns
+    returns-2
+    returns-3
+    add-byte32
+    shared-slice-read-byte32
+    byte32-requires
+    returns-4)

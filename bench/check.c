@@ -1,0 +1,130 @@
+/* Reads crates/vectors/stdin and prints, by the plain reader alone, what crates/vectors/stdout holds. */
+#include "plain.h"
+
+#include <stdbool.h>
+#include <stdio.h>
+#include <stdlib.h>
+#include <string.h>
+
+enum { ROOM = 4096, UNTOUCHED = 0xA5 };
+
+static const char *const kinds[] = {"",          "address",    "addresses", "pairs", "flag",  "octet", "number16",
+                                    "numbers16", "unsigned32", "signed32",  "text",  "opaque"};
+static const uint64_t every[4] = {UINT64_MAX, UINT64_MAX, UINT64_MAX, UINT64_MAX};
+static const uint64_t none[4];
+
+static uint8_t m[65536];
+static size_t n;
+static unsigned cases;
+
+static void hold(bool right, const char *what)
+{
+    if (!right) {
+        fprintf(stderr, "check: case %u: %s\n", cases, what);
+        exit(1);
+    }
+}
+
+static bool untouched(const uint8_t *p, size_t length)
+{
+    for (size_t i = 0; i < length; i++)
+        if (p[i] != UNTOUCHED)
+            return false;
+    return true;
+}
+
+/* Reading order of a place: options, then file, then sname. */
+static size_t turn(size_t place)
+{
+    return place >= 240 ? place : place >= 108 ? place + 10000 : place + 20000;
+}
+
+/* A refused message is refused alike by every call. */
+static void refused(plain_codes p)
+{
+    static uint8_t out[ROOM];
+    memset(out, UNTOUCHED, ROOM);
+    plain_filled f = plain_records(m, n, out, ROOM);
+    hold(f.refusal == p.refusal && f.place == p.place && f.size == 0 && untouched(out, ROOM), "records of a refused message");
+    hold((p.words[0] | p.words[1] | p.words[2] | p.words[3]) == 0 && p.count == 0 && p.lowest == 0, "codes of a refused message");
+    for (unsigned c = 1; c < 255; c++) {
+        plain_answer a = plain_lookup(m, n, every, (uint8_t)c);
+        plain_extent e = plain_data(m, n, (uint8_t)c);
+        hold(a.status == PLAIN_REFUSED && a.refusal == p.refusal && a.place == p.place, "lookup in a refused message");
+        hold(e.start == 0 && e.length == 0, "data of a refused message");
+    }
+    printf("refused %u %zu\n", p.refusal, p.place);
+}
+
+static void accepted(plain_codes p)
+{
+    static uint8_t out[ROOM];
+    uint8_t order[256];
+    plain_answer all[256];
+    unsigned met = 0;
+    for (unsigned c = 1; c < 255; c++) {
+        plain_answer a = plain_lookup(m, n, none, (uint8_t)c);
+        bool marked = p.words[c / 64] >> (c % 64) & 1;
+        hold(a.status == (marked ? PLAIN_UNKNOWN : PLAIN_ABSENT), "present and lookup");
+        plain_extent e = plain_data(m, n, (uint8_t)c);
+        hold(e.length == a.length && e.start == (a.length > 0 ? a.start : 0), "data and lookup");
+        if (!marked)
+            continue;
+        all[c] = a;
+        unsigned i = met++;
+        for (; i > 0 && turn(all[order[i - 1]].start) > turn(a.start); i--)
+            order[i] = order[i - 1];
+        order[i] = (uint8_t)c;
+    }
+    hold(met == p.count, "count");
+    printf("accepted %u\n", met);
+    for (unsigned i = 0; i < met; i++)
+        printf("%u %zu %zu\n", order[i], all[order[i]].start, all[order[i]].length);
+    printf("present %llu %llu %llu %llu count %u lowest %u\n", (unsigned long long)p.words[0], (unsigned long long)p.words[1],
+           (unsigned long long)p.words[2], (unsigned long long)p.words[3], p.count, p.lowest);
+    for (unsigned i = 0; i < met; i++) {
+        plain_answer a = plain_lookup(m, n, every, order[i]);
+        if (a.status == PLAIN_NUMBER)
+            printf("%u %s %lld\n", order[i], kinds[a.kind], (long long)a.number);
+        else if (a.status == PLAIN_PART)
+            printf("%u %s %zu %zu\n", order[i], kinds[a.kind], a.start, a.length);
+        else if (a.status == PLAIN_UNKNOWN)
+            printf("%u unknown %zu %zu\n", order[i], a.start, a.length);
+        else
+            printf("%u refused %u %zu\n", order[i], a.refusal, a.place);
+    }
+    memset(out, UNTOUCHED, ROOM);
+    plain_filled f = plain_records(m, n, out, ROOM);
+    hold(f.refusal == 0 && untouched(out + f.size, ROOM - f.size), "records");
+    unsigned long sum = 0;
+    for (size_t i = 0; i < f.size; i++)
+        sum = (sum * 31 + out[i]) % 1000003;
+    printf("records %zu %lu\n", f.size, sum);
+    hold(plain_records(m, n, out, f.size).size == f.size, "records, exact room");
+    if (f.size > 0) {
+        memset(out, UNTOUCHED, ROOM);
+        f = plain_records(m, n, out, f.size - 1);
+        hold(f.refusal == 11 && untouched(out, ROOM), "records, too little room");
+    }
+}
+
+int main(void)
+{
+    for (;; cases++) {
+        int high = getchar();
+        if (high == EOF)
+            break;
+        n = (size_t)high << 8;
+        n |= (size_t)getchar();
+        if (fread(m, 1, n, stdin) != n)
+            hold(false, "cut off");
+        hold(plain_lookup(m, n, every, 0).refusal == 10 && plain_lookup(m, n, every, 255).refusal == 10, "lookup of 0 or 255");
+        plain_codes p = plain_present(m, n);
+        if (p.refusal != 0)
+            refused(p);
+        else
+            accepted(p);
+        puts("-");
+    }
+    return 0;
+}

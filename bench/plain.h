@@ -1,0 +1,54 @@
+/* Document 01's reader in plain C: the measure for the library's reading calls. */
+#ifndef PLAIN_H
+#define PLAIN_H
+
+#include <stddef.h>
+#include <stdint.h>
+
+/* What a lookup answers. */
+enum { PLAIN_ABSENT, PLAIN_UNKNOWN, PLAIN_REFUSED, PLAIN_NUMBER, PLAIN_PART };
+
+/* The kinds in the order of 01's table; 0: the code has no row. */
+enum {
+    PLAIN_NO_ROW,
+    PLAIN_ADDRESS,
+    PLAIN_ADDRESSES,
+    PLAIN_PAIRS,
+    PLAIN_FLAG,
+    PLAIN_OCTET,
+    PLAIN_NUMBER16,
+    PLAIN_NUMBERS16,
+    PLAIN_UNSIGNED32,
+    PLAIN_SIGNED32,
+    PLAIN_TEXT,
+    PLAIN_OPAQUE
+};
+
+/* What a call does not give is 0. A refusal is 01's number, 0 if there is none. */
+typedef struct {
+    uint32_t status, kind, refusal;
+    int64_t number;
+    size_t place, start, length;
+} plain_answer;
+
+typedef struct {
+    size_t start, length;
+} plain_extent;
+
+typedef struct {
+    uint64_t words[4];
+    uint32_t count, lowest, refusal;
+    size_t place;
+} plain_codes;
+
+typedef struct {
+    uint32_t refusal;
+    size_t size, place;
+} plain_filled;
+
+plain_answer plain_lookup(const uint8_t *m, size_t n, const uint64_t known[4], uint8_t code);
+plain_extent plain_data(const uint8_t *m, size_t n, uint8_t code);
+plain_codes plain_present(const uint8_t *m, size_t n);
+plain_filled plain_records(const uint8_t *m, size_t n, uint8_t *out, size_t room);
+
+#endif

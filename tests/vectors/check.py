@@ -125,6 +125,67 @@ def printed(m):
     return out + f"records {len(sheet)} {total}\n-\n"
 
 
+# --- The lines after the cases ------------------------------------------------------------------------------------------
+
+def extra_message():
+    file = bytes.fromhex("33 04 00 00 0E 10 FF")
+    options = bytes.fromhex("0C 03 61 62 00 03 08 0A 00 00 01 FF FF FF FE 35 01 09 06 03 01 02 03 04 06 00 00 00 01 02 03"
+                            "0F 02 00 00 78 02 05 06 34 01 01 FF")
+    return (bytes(108) + file.ljust(128, b"\0") + bytes([99, 130, 83, 99]) + options).ljust(300, b"\0")
+
+
+def answer(m, known, code):
+    if code in (0, 255):
+        return "refused 10 0"
+    try:
+        met = read(m)
+    except Refused as fault:
+        return "refused {} {}".format(*fault.args)
+    if code not in met:
+        return "absent"
+    at = met[code]
+    return look_up(m, code, at) if code in known else f"unknown {at + 2} {m[at + 1]}"
+
+
+def data(m, code):
+    """The bytes of a code with their place; not a refusal but an empty part where there are none."""
+    words = answer(m, (), code).split()
+    return place_of(m, words[1:]) if words[0] == "unknown" else "0 0"
+
+
+def text(m, known, code):
+    words = answer(m, known, code).split()
+    return place_of(m, words[1:]) if words[0] == "text" else "0 0"
+
+
+def place_of(m, words):
+    start, length = map(int, words)
+    return " ".join(str(n) for n in (start, length, *m[start:start + length])) if length else "0 0"
+
+
+def steps(m, code):
+    bytes_ = bytes(map(int, data(m, code).split()[2:]))
+    return "".join(f" {n}" for (n,) in struct.iter_unpack(">I", bytes_[:len(bytes_) // 4 * 4]))
+
+
+def extra():
+    every, m, zeros = range(1, 255), extra_message(), bytes(240)
+    lines = ["extra"]
+    for known, codes in ((every, (0, 255, 50)), ((), (0, 12, 50)), ((12,), (12, 3, 53, 120, 51))):
+        lines += [f"{code} {answer(m, known, code)}" for code in codes]
+    lines += [f"data {code} {data(m, code)}" for code in (12, 53, 120, 52, 51, 50, 0, 255)]
+    lines += [f"text {code} {text(m, every, code)}" for code in (12, 15, 53, 50, 0)]
+    lines += [f"text 12 {text(m, (), 12)}"]
+    lines += [f"walk {code}{steps(m, code)}" for code in (3, 4, 6, 50)]
+    records = printed(m).splitlines()[-2]
+    needed = int(records.split()[1])
+    lines += [records, f"records refused 11 {needed - 1}"]
+    lines += [f"{code} {answer(zeros, every, code)}" for code in (12, 0)]
+    lines += [f"data 12 {data(zeros, 12)}", f"text 12 {text(zeros, every, 12)}", "present 0 0 0 0 count 0 lowest 0"]
+    lines += [f"records {printed(zeros).splitlines()[0]}"]
+    return "".join(line + "\n" for line in lines)
+
+
 def main():
     given, place, messages = (OUT / "stdin").read_bytes(), 0, []
     while place < len(given):
@@ -145,10 +206,13 @@ def main():
         if have != want:
             differing += 1
             print(f"case {i} ({len(m)} bytes)\nread:\n{have}expected:\n{want}")
-    if lines or len(messages) != len(expected):
+    if len(messages) != len(expected):
         differing += 1
-        print(f"{len(messages)} messages, {len(expected)} expectations, {len(lines)} lines left over")
-    print(f"{len(messages)} cases, {differing} differ")
+        print(f"{len(messages)} messages, {len(expected)} expectations")
+    if "".join(lines) != extra():
+        differing += 1
+        print(f"after the cases\nread:\n{extra()}expected:\n{''.join(lines)}")
+    print(f"{len(messages)} cases and {len(lines)} lines after them, {differing} differ")
     return 1 if differing else 0
 
 

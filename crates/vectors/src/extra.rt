@@ -1,0 +1,114 @@
+// Calls that no case makes, on two messages of the program's own.
+ghost use Prim.Native.Nat.{_+_, _≤_};
+ghost use lib.ListN.{length};
+use crate::ALL;
+use crate::print;
+
+// Lays src over m from at on.
+fn lay(m: &mut [u8], at: usize, src: &[u8])
+    requires { ⌜ at + length (now src) ≤ length (now m) ⌝ }
+{
+    let mut i: usize = 0;
+    while i < src.len() {
+        m[at + i] = src[i];
+        i = i + 1;
+    }
+}
+
+// Options 12, 3, 53, 6, 4, 15, 120 and 52, and 51 in file; 53, 6 and 4 are broken.
+fn message() -> [u8; 300] {
+    let mut m = [0u8; 300];
+    lay(&mut m, 108, b"\x33\x04\x00\x00\x0E\x10\xFF");
+    lay(&mut m, 236, b"\x63\x82\x53\x63");
+    lay(
+        &mut m,
+        240,
+        b"\x0C\x03ab\x00\x03\x08\x0A\x00\x00\x01\xFF\xFF\xFF\xFE\x35\x01\x09\x06\x03\x01\x02\x03",
+    );
+    lay(
+        &mut m,
+        263,
+        b"\x04\x06\x00\x00\x00\x01\x02\x03\x0F\x02\x00\x00\x78\x02\x05\x06\x34\x01\x01\xFF",
+    );
+    m
+}
+
+// Lookups of 0 and 255, of an absent code, and with known sets that leave codes out.
+fn lookups(m: &[u8]) {
+    let none = [0u64; 4];
+    let only_12 = [4096u64, 0, 0, 0];
+    print::look_up(m, ALL, 0);
+    print::look_up(m, ALL, 255);
+    print::look_up(m, ALL, 50);
+    print::look_up(m, none, 0);
+    print::look_up(m, none, 12);
+    print::look_up(m, none, 50);
+    print::look_up(m, only_12, 12);
+    print::look_up(m, only_12, 3);
+    print::look_up(m, only_12, 53);
+    print::look_up(m, only_12, 120);
+    print::look_up(m, only_12, 51);
+}
+
+// Data of known, broken, rowless and absent codes.
+fn data(m: &[u8]) {
+    print::data(m, 12);
+    print::data(m, 53);
+    print::data(m, 120);
+    print::data(m, 52);
+    print::data(m, 51);
+    print::data(m, 50);
+    print::data(m, 0);
+    print::data(m, 255);
+}
+
+// Text, and codes that have none.
+fn texts(m: &[u8]) {
+    let none = [0u64; 4];
+    print::text(m, ALL, 12);
+    print::text(m, ALL, 15);
+    print::text(m, ALL, 53);
+    print::text(m, ALL, 50);
+    print::text(m, ALL, 0);
+    print::text(m, none, 12);
+}
+
+// Two addresses; one and two bytes left over; three bytes alone; nothing.
+fn walks(m: &[u8]) {
+    print::addresses(m, 3);
+    print::addresses(m, 4);
+    print::addresses(m, 6);
+    print::addresses(m, 50);
+}
+
+// The records of the message take 53 bytes: one sheet holds them, one is too small.
+fn sheets(m: &[u8]) {
+    let mut sheet = [0u8; 53];
+    let mut small = [0u8; 52];
+    print::records(m, &mut sheet);
+    print::records(m, &mut small);
+}
+
+// A message of 240 zeros is refused for its cookie; 10 comes before that.
+fn refused() {
+    let m = [0u8; 240];
+    let mut sheet = [0u8; 1];
+    print::look_up(&m, ALL, 12);
+    print::look_up(&m, ALL, 0);
+    print::data(&m, 12);
+    print::text(&m, ALL, 12);
+    print::present(present::present(&m));
+    print::records(&m, &mut sheet);
+}
+
+// The lines after the cases.
+pub fn lines() {
+    print::word(b"extra\n");
+    let m = message();
+    lookups(&m);
+    data(&m);
+    texts(&m);
+    walks(&m);
+    sheets(&m);
+    refused();
+}

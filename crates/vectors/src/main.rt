@@ -1,0 +1,90 @@
+// Reads messages from standard input, and prints what the calls answer for each (tests/vectors/README.md).
+mod extra;
+mod print;
+
+use lookup::Answer;
+use wire::Spot;
+
+// Every code, as a known set.
+const ALL: [u64; 4] = [18446744073709551615; 4];
+
+// The lookup of each option of a field of m.
+fn field_lookups(m: &[u8], f: &[u8]) {
+    let mut i: usize = 0;
+    loop {
+        let Spot::Item { offset, code, len } = wire::next_option(f, i) else {
+            return;
+        };
+        print::look_up(m, ALL, code);
+        i = offset + 2 + len;
+    }
+}
+
+// The value of option 52, or 0.
+fn overload(m: &[u8]) -> u32 {
+    let a = lookup::lookup(m, ALL, 52);
+    match a {
+        Answer::Octet(v) => v as u32,
+        _ => 0,
+    }
+}
+
+// The lookup of each option, in reading order.
+fn lookups(m: &[u8]) {
+    field_lookups(m, message::part(m, 240, 1232));
+    let v = overload(m);
+    if message::file_on(v) {
+        field_lookups(m, message::part(m, 108, 128));
+    }
+    if message::sname_on(v) {
+        field_lookups(m, message::part(m, 44, 64));
+    }
+}
+
+// The lines of one message.
+fn one(m: &[u8]) {
+    let mut text = [0u8; 16384];
+    let n = listing::list(m, &mut text);
+    print::word(&text[..n]);
+    let p = present::present(m);
+    if p.number == 0 {
+        print::present(p);
+        lookups(m);
+        let mut sheet = [0u8; 2048];
+        print::records(m, &mut sheet);
+    }
+    print::word(b"-\n");
+}
+
+// Reads a message as long as buf and prints its lines.
+fn body(buf: &mut [u8]) {
+    let n = io::read_full(0, buf);
+    one(&buf[..n]);
+}
+
+// Reads one message and prints its lines; false at the end of the input.
+fn next() -> bool {
+    let mut head = [0u8; 2];
+    if io::read_full(0, &mut head) < 2 {
+        return false;
+    }
+    let size = (print::wide(head[0]) * 256 + print::wide(head[1])) as usize;
+    if 1600 < size {
+        return false;
+    }
+    let mut buf = [0u8; 1600];
+    body(&mut buf[..size]);
+    true
+}
+
+// At most 1,000 messages are read.
+fn main() {
+    let mut left: usize = 1000;
+    while left > 0 {
+        if !next() {
+            break;
+        }
+        left = left - 1;
+    }
+    extra::lines();
+}

@@ -237,7 +237,7 @@ records-in-reading-order m a i j c e d b l r less h k =
 pub records-end-to-end : RecordsEndToEnd
 records-end-to-end m a = ends-whole (message-rows m a) first
 
--- ---- The lent sheet
+-- ---- The lent buffer
 
 filled-right : (xs old : List ℕ) → length xs ≤ length old → FilledRight xs old (record { answer = given (length xs); buffer = xs ++ drop (length xs) old })
 filled-right xs old h =

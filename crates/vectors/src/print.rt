@@ -107,7 +107,7 @@ fn sum(s: &[u8]) -> u64 {
     t
 }
 
-// The line of the records that are written to a lent sheet.
+// The line of the records that are written to a lent buffer.
 pub fn records(m: &[u8], sheet: &mut [u8]) {
     match records::records(m, sheet) {
         Given::Refused { number, place } => two(b"records refused", number as usize, place),

@@ -15,6 +15,7 @@ use Rattle.options.specs.Answers.{Answer, Absent, Unknown, Part, lookup,
 use Rattle.options.specs.Refusals.{First}
 use Rattle.options.specs.ReadingClaims.{IsAccepted, CorrectList}
 use Rattle.options.specs.KindClaims.{FromTo, AllBytes, TextEnds}
+use Rattle.options.specs.Sheet.{RecordBegins, Listed}
 
 -- ---- "Data of a code: the part of the caller's message that holds all data bytes, whether known, broken or not"
 
@@ -91,25 +92,6 @@ RecordsRight = (m : List ℕ) (os : List Opt) (old : List ℕ) → CorrectList m
 
 abbrev pub RecordsRefused : Type 0
 RecordsRefused = (m : List ℕ) (n p : ℕ) (old : List ℕ) → First m n p → records m old ≡ unfilled n p old
-
--- "records end to end: one-byte tag (the code), two-byte length, data", by places: a record at place i of a sheet
-pub record RecordAt (s : List ℕ) (i c : ℕ) (d : List ℕ) : Type 0 where
-  pub high : ℕ
-  pub low : ℕ
-  pub after : List ℕ
-  pub reads : drop i s ≡ c ∷ high ∷ low ∷ (d ++ after)
-  pub high-byte : high < 256
-  pub low-byte : low < 256
-  pub size : 256 * high + low ≡ length d
-
--- a record begins at the sheet's first place, and after a whole record
-pub data RecordBegins (s : List ℕ) : ℕ → Type 0 where
-  first : RecordBegins s 0
-  after-record : {i c : ℕ} {d : List ℕ} → RecordBegins s i → RecordAt s i c d → RecordBegins s (i + 3 + length d)
-
-pub record Listed (s : List ℕ) (i c : ℕ) (d : List ℕ) : Type 0 where
-  pub begins : RecordBegins s i
-  pub is-record : RecordAt s i c d
 
 -- the records' bytes of an accepted message
 abbrev pub recordsOf : {m : List ℕ} → IsAccepted m → List ℕ

@@ -1,0 +1,12 @@
+-- A written field and a written message, read
+pub mod Encode
+pub mod Written
+-- The sheet: its records, and the rows of the table that concern one
+pub mod SheetLaws
+pub mod SheetRows
+-- The return of the sheet, and demand 3
+pub mod Demand
+-- What the writer leaves, when it refuses, and that no other writer is right
+pub mod Writer
+pub mod Declined
+pub mod WriterOnly

@@ -14,13 +14,13 @@ use Rattle.options.specs.Kinds.{Table}
 use Rattle.options.specs.Answers.{recordBytes}
 use Rattle.options.specs.KindClaims.{AllBytes}
 use Rattle.options.specs.Sheet.{Listed, first}
-use Rattle.options.specs.SheetRefusals.{SheetRow, row-7, FirstSheetRow}
+use Rattle.options.specs.SheetRefusals.{SheetRow, row-7}
 use Rattle.options.specs.Writing.{Sheet, sound, faulty, sheet, Wrote, wrote, declined, threeBeforeOne, placeOf3, planFits, plans, tryPlans, afterSheet, written, writer}
 use Rattle.options.specs.WriterClaims.{Permitted, Holding, step, WriteRow, write-1, write-2, write-15, write-16, write-record, write-14, write-11, FirstWriteRow, WriterSays, RefusesByTheTable, CorrectWrite, DeclinedIff}
 use Rattle.theorems.proofs.View.{clash}
 use Rattle.theorems.proofs.Reading.{order}
 use Rattle.writing_theorems.proofs.SheetLaws.{sheet-back, sheet-short, AllShort, same-sheet}
-use Rattle.writing_theorems.proofs.SheetRows.{Judges, judges, three-first, three-later, same-number}
+use Rattle.writing_theorems.proofs.SheetRows.{FirstSheetRow, Judges, judges, three-first, three-later, same-number}
 use Rattle.writing_theorems.proofs.Writer.{writer-writes, Among, is-permitted, permitted-is, holding, fitting, fits-of}
 
 module _ (t : Table) (s m : List ℕ) (permission : ℕ) where

@@ -15,7 +15,7 @@ use Rattle.options.specs.Kinds.{Table, Value, broken, number, part}
 use Rattle.options.specs.Answers.{recordBytes}
 use Rattle.options.specs.KindClaims.{AllBytes}
 use Rattle.options.specs.Sheet.{RecordAt, RecordBegins, first, after-record, Listed}
-use Rattle.options.specs.SheetRefusals.{RecordBeyond, SheetRow, row-12, row-10, row-13, row-7, row-8-9, FirstSheetRow}
+use Rattle.options.specs.SheetRefusals.{RecordBeyond, SheetRow, row-12, row-10, row-13, row-7, row-8-9}
 use Rattle.options.specs.Writing.{Sheet, sound, faulty, keep, sizeIn, wrongTag, sheetRecord, isBroken, brokenBy, breaksKind, rules, tested, sheetFrom, sheet, hasTag, threeBeforeOne, placeOf3}
 use Rattle.options.specs.WritingClaims.{RecordIn}
 use Rattle.theorems.proofs.View.{clash}
@@ -291,6 +291,12 @@ of-row (row-10 b x y) = from-10 (begins-from b) x y
 of-row (row-13 b x) = from-13 (begins-from (b .begins)) (b .is-record) x
 of-row (row-7 b l c) = from-7 (begins-from (b .begins)) (b .is-record) (in-sheet l (begins-from (c .begins)) (c .is-record))
 of-row (row-8-9 b x y) = from-8-9 (begins-from (b .begins)) (b .is-record) x y
+
+-- "the first faulty record, at one record 12, 10, 13, 7, 8, 9"
+pub record FirstSheetRow (t : Table) (s : List ℕ) (n i : ℕ) : Type 0 where
+  pub rank : ℕ
+  pub applies : SheetRow t s n i rank
+  pub none-before : {k j q : ℕ} → SheetRow t s k j q → (i < j) ⊎ ((i ≡ j) × (rank ≤ q))
 
 abbrev pub Judges : Table → List ℕ → Sheet → Type 0
 Judges t s (faulty n p) = FirstSheetRow t s n p

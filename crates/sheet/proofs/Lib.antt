@@ -1,0 +1,4 @@
+pub mod Rules
+pub mod Tags
+pub mod Judging
+pub mod Verdicts

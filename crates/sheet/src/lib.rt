@@ -1,0 +1,126 @@
+// The settings sheet (document 01, The settings sheet and the writer): whether it is refused, whatever the buffer.
+ghost use mathlib.Core.Path.{_≡_};
+ghost use Prim.Native.Nat.{suc, _<_, _/_};
+ghost use lib.ListN.{length, drop, getD};
+ghost use Rattle.sheet.specs.Judge.{judgeOf, firstBroken, rulesFor, threeAfter, oneAfter, orderOf};
+
+// Number and place of a sheet's refusal; 0 and 0 where there is none.
+pub struct Judged {
+    pub number: u32,
+    pub place: usize,
+}
+
+fn wide(x: u8) -> usize
+    ensures { λ r. ⌜ (r ≡ x) × (r < 256) ⌝ }
+{
+    x as usize
+}
+
+// The word of a code in a set of codes.
+fn word(c: u8) -> usize
+    ensures { λ r. ⌜ (r ≡ c / 64) × (r < 4) ⌝ }
+{
+    (c / 64) as usize
+}
+
+// The number of the first rule that the record at a place breaks, or 0; `again`: its tag was met before.
+fn broken_rule(s: &[u8], at: usize, again: bool) -> u32
+    requires { ⌜ at < length (now s) ⌝ }
+    ensures { λ r. ⌜ r ≡ firstBroken (rulesFor again (getD (now (s .entry)) at 0) (drop (suc at) (now (s .entry)))) ⌝ }
+{
+    let left = s.len() - at;
+    if left < 3 {
+        return 12;
+    }
+    let n = 256 * wide(s[at + 1]) + wide(s[at + 2]);
+    if left - 3 < n {
+        return 12;
+    }
+    let tag = s[at];
+    if tag == 0 {
+        return 10;
+    }
+    if tag == 52 {
+        return 10;
+    }
+    if tag == 255 {
+        return 10;
+    }
+    if 255 < n {
+        return 13;
+    }
+    if again {
+        return 7;
+    }
+    kinds::fault(tag, &s[at + 3..at + 3 + n]) as u32
+}
+
+// The place of a tag 3 that no tag 1 stands before, counted from 1 (0: none), after a record with tag c at a place so counted.
+fn three_after(three: usize, one: bool, c: u8, here: usize) -> usize
+    ensures { λ r. ⌜ r ≡ threeAfter three one c here ⌝ }
+{
+    if c != 3 {
+        return three;
+    }
+    if one {
+        return three;
+    }
+    if three != 0 {
+        return three;
+    }
+    here
+}
+
+// Whether tag 1 was met, after a record with tag c.
+fn one_after(one: bool, c: u8) -> bool
+    ensures { λ r. ⌜ r ≡ oneAfter one c ⌝ }
+{
+    if c == 1 { true } else { one }
+}
+
+// A sheet without a faulty record: 14 where tag 1 was met and tag 3 before it.
+fn order(three: usize, one: bool) -> Judged
+    ensures { λ r. ⌜ r ≡ orderOf three one ⌝ }
+{
+    if !one {
+        return Judged {
+            number: 0,
+            place: 0,
+        };
+    }
+    if three == 0 {
+        return Judged {
+            number: 0,
+            place: 0,
+        };
+    }
+    Judged {
+        number: 14,
+        place: three - 1,
+    }
+}
+
+// Judges a sheet in one walk (document 01, Numbers given on refusal): the first faulty record, then 14.
+pub fn judge(s: &[u8]) -> Judged
+    ensures { λ r. ⌜ r ≡ judgeOf (now (s .entry)) ⌝ }
+{
+    let mut seen = [0u64; 4];
+    let mut three: usize = 0;
+    let mut one = false;
+    let mut at: usize = 0;
+    while at < s.len() {
+        let c = s[at];
+        let k = word(c);
+        let old = seen[k];
+        let new = old | (1u64 << (c % 64));
+        let number = broken_rule(s, at, new == old);
+        if number != 0 {
+            return Judged { number, place: at };
+        }
+        seen[k] = new;
+        three = three_after(three, one, c, at + 1);
+        one = one_after(one, c);
+        at = at + 3 + wide(s[at + 2]);
+    }
+    order(three, one)
+}

@@ -1,0 +1,62 @@
+-- Option 52 before the records. Assumes nothing.
+use mathlib.Core.Path.{_≡_, refl, sym, ap, ap₂, _∙_}
+use mathlib.Core.List.{List, [], _∷_, _++_}
+use Prim.Native.Nat.{ℕ, _+_, _-_, _<_, _≤_}
+use native.Mathlib.Omega.{arith}
+use lib.ListN.{length, take, drop, length-drop}
+use borrow.Rule.Slice.PartMut.{putMid, midOf}
+use borrow.Author.Tests.{ne-eqb}
+use Rattle.options.specs.Message.{Rec}
+use Rattle.options.specs.Writing.{with52}
+use Rattle.field_writer.specs.Fill.{nextSize, filled, taken, past52}
+use Rattle.field_writer.proofs.Bytes.{mid-rest, put-rest}
+use Rattle.field_writer.proofs.Sheets.{no-room}
+use Rattle.field_writer.proofs.Filling.{fill-more, ends}
+
+abbrev pub option52 : ℕ → Rec
+option52 p = record { tag = 52; body = p ∷ [] }
+
+pub nothing-fits : (rs : List Rec) → taken 0 rs ≡ 0
+unfolding nextSize
+nothing-fits rs = ends 0 rs (none rs) .1
+  where
+    none : (rs : List Rec) → nextSize 0 rs ≡ 0
+    none [] = refl
+    none (r ∷ rs) = sym (no-room 0 (length (r .body)) r rs (r ∷ rs) refl refl (omega arith))
+
+pub from-start : (k : ℕ) → 0 + k ≡ k
+from-start k = omega arith
+
+-- a plan without it
+pub alone : (p n : ℕ) (rs : List Rec) (ys : List ℕ) (r : ℕ) → p ≡ 0 → ys ≡ filled n rs → r ≡ 0 + taken n rs → (ys ≡ filled n (with52 p rs)) × (r ≡ taken (past52 p n) rs)
+alone p n rs ys r z y q = rw z (y, q ∙ from-start (taken n rs))
+
+module _ (p : ℕ) (rs : List Rec) (z : p ≡ 0 → ⊥) where
+  pub first : with52 p rs ≡ option52 p ∷ rs
+  first = rw (ne-eqb p 0 z)
+
+  pub rest : (n : ℕ) → past52 p n ≡ n - 3
+  rest n = rw (ne-eqb p 0 z)
+
+  -- no room for it
+  pub shut : (n : ℕ) (ys : List ℕ) → n < 4 → ys ≡ filled n [] → (ys ≡ filled n (with52 p rs)) × (0 ≡ taken (past52 p n) rs)
+  shut n ys h y =
+      let k : n - 3 ≡ 0 = omega arith in (
+        y ∙ sym (ends n (option52 p ∷ rs) (sym (no-room n 1 (option52 p) rs (option52 p ∷ rs) refl refl (omega arith))) .0) ∙ ap (filled n) (sym first),
+        sym (ap (λ (i : ℕ). taken i rs) (rest n ∙ k) ∙ nothing-fits rs),
+      )
+
+  -- written, and the records after it
+  module _ (field x ys : List ℕ) (h : 4 ≤ length field) (e : x ≡ (52 ∷ 1 ∷ p ∷ []) ++ drop 3 field) (l : length x ≡ length field) where
+    lent : length (midOf 3 (length x - 3) x) ≡ length field - 3
+    lent = ap length (mid-rest 3 x) ∙ length-drop 3 x ∙ ap (λ (k : ℕ). k - 3) l
+
+    pub after : ys ≡ filled (length (midOf 3 (length x - 3) x)) rs → putMid 3 (length x - 3) x ys ≡ filled (length field) (with52 p rs)
+    after y =
+        put-rest 3 x ys (omega arith)
+        ∙ ap₂ (λ (a b : List ℕ). take 3 a ++ b) e (y ∙ ap (λ (k : ℕ). filled k rs) lent)
+        ∙ sym (fill-more (length field) (option52 p) rs h)
+        ∙ ap (filled (length field)) (sym first)
+
+    pub place52 : (r : ℕ) → r ≡ 0 + taken (length (midOf 3 (length x - 3) x)) rs → r ≡ taken (past52 p (length field)) rs
+    place52 r q = q ∙ from-start _ ∙ ap (λ (k : ℕ). taken k rs) (lent ∙ sym (rest (length field)))

@@ -1,0 +1,52 @@
+-- `field_writer::put_option` meets its contract. Assumes nothing.
+use borrow.Author.Needs.{needs}
+use native.Mathlib.Omega.{arith}
+use mathlib.Core.Path.{_∙_}
+use lib.ListN.{length-set, length-take, length-drop}
+use denote.Ref.{now}
+use Rattle.field_writer.proofs.Bytes.{put-head}
+use Rattle.field_writer.proofs.put_option.Statement.{statement}
+use Rattle.field_writer.proofs.put_option.Tie as tie
+
+slice-write-room : tie.Need-slice-write-room
+slice-write-room c = search needs
+
+cast-room : tie.Need-cast-room
+cast-room c = search needs
+
+slice-write-room-2 : tie.Need-slice-write-room-2
+slice-write-room-2 c = simp length-set (omega arith)
+
+sub-copy-in : tie.Need-sub-copy-in
+sub-copy-in c = simp length-set (omega arith)
+
+part-copy-in-start : tie.Need-part-copy-in-start
+part-copy-in-start c = simp length-set (omega arith)
+
+part-copy-in-end : tie.Need-part-copy-in-end
+part-copy-in-end c = search needs
+
+copy-in-requires : tie.Need-copy-in-requires
+copy-in-requires c κs = simp (length-take, length-drop, length-set) (omega arith)
+
+same-length : tie.Need-same-length
+same-length c = c .before .room .given .1 ∙ simp length-set
+
+returns : tie.Need-returns
+returns c =
+    let start = c .before .before .before .before .before .before in
+    put-head (now (start .args .room)) (now (start .args .body)) (c .before .before .copy-in .last .0) (start .args .code) _ (omega arith) (c .before .before .copy-in .ensures)
+
+pub put-option-spec : {M : Type 1} → statement M
+put-option-spec =
+    tie.close
+    (tie.spec
+    slice-write-room
+    cast-room
+    slice-write-room-2
+    sub-copy-in
+    part-copy-in-start
+    part-copy-in-end
+    copy-in-requires
+    same-length
+    returns)

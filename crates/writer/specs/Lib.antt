@@ -1,0 +1,2 @@
+-- What the writer's code is held to, over `writer` of crate options.
+pub mod Writer

@@ -1,0 +1,36 @@
+-- THE WRITER'S ANSWER, and what it leaves in the buffer. Assumes nothing.
+use mathlib.Core.Path.{_≡_}
+use mathlib.Core.List.{List}
+use mathlib.Core.Bool.{Bool, cond}
+use Prim.Native.Nat.{ℕ, _+_}
+use lib.ListN.{length, drop}
+use lib.Dec.{eqb}
+use Rattle.options.specs.Answers.{recordBytes}
+use Rattle.options.specs.Writing as options
+use Rattle.field_writer.specs.Fill.{sheetRecords, taken}
+use Rattle.writer.specs.declared.Wrote.{Wrote}
+use Rattle.writer.specs.declared.Wrote.the-variants.{Plan, Refused}
+
+-- "The first that fits is used, and its number is the answer"; else number and place of the refusal
+abbrev pub answerOf : options.Wrote → Wrote
+answerOf (options.wrote p w) = Plan p
+answerOf (options.declined n p) = Refused n p
+
+-- what a call answers, and what it leaves in the buffer m
+pub record Gives (w : options.Wrote) (m : List ℕ) (r : Wrote) (m′ : List ℕ) : Type 0 where
+  pub answer : r ≡ answerOf w
+  pub buffer : m′ ≡ options.bufferAfter m w
+
+-- ---- What the functions below `write` are held to
+
+-- END, and option 52 where plan p has it
+abbrev pub leastRoom : ℕ → ℕ
+leastRoom p = cond (eqb p 0) 1 4
+
+-- the place after a further field of n bytes, where the plan uses it
+abbrev pub placeIf : Bool → ℕ → List ℕ → ℕ → ℕ
+placeIf used n s at = cond used (at + taken n (sheetRecords 0 (drop at s))) at
+
+-- the records take all of the sheet
+abbrev pub Whole : List ℕ → Type 0
+Whole s = length (recordBytes (sheetRecords 0 s)) ≡ length s

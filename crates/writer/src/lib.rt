@@ -1,0 +1,182 @@
+// The writer (document 01, The settings sheet and the writer): a sheet into a buffer by the first permitted plan that fits, or a refusal.
+ghost use mathlib.Core.Path.{_≡_};
+ghost use mathlib.Core.Bool.{cond};
+ghost use mathlib.Core.List.{[], _∷_};
+ghost use Prim.Native.Nat.{_-_, _≤_};
+ghost use lib.ListN.{length, drop};
+ghost use Rattle.options.specs.Message.{cookie};
+ghost use Rattle.options.specs.Reading.{fileIn, snameIn};
+ghost use Rattle.options.specs.Kinds.{kinds};
+ghost use Rattle.options.specs.Writing.{written, planFits, plans, tryPlans, writer};
+ghost use Rattle.field_writer.specs.Fill.{sheetRecords, filled, past52};
+ghost use Rattle.writer.specs.Writer.{leastRoom, placeIf, Whole, Gives};
+
+// The plan that was used, or number and place of the refusal.
+pub enum Wrote {
+    Plan(u32),
+    Refused { number: u32, place: usize },
+}
+
+fn put_cookie(room: &mut [u8])
+    requires { ⌜ length (now room) ≡ 4 ⌝ }
+    ensures { λ _. ⌜ now (room .exit) ≡ cookie ⌝ }
+{
+    room[0] = 99;
+    room[1] = 130;
+    room[2] = 83;
+    room[3] = 99;
+}
+
+// A further field, written where the plan uses it. The result is the place in the sheet after it.
+fn fill_if(field: &mut [u8], used: bool, s: &[u8], from: usize) -> usize
+    ensures { λ r. ⌜ (now (field .exit) ≡ cond used (filled (length (now (field .entry))) (sheetRecords 0 (drop from (now (s .entry))))) (now (field .entry))) × (r ≡ placeIf used (length (now (field .entry))) (now (s .entry)) from) ⌝ }
+{
+    if used {
+        field_writer::fill(field, s, from)
+    } else {
+        from
+    }
+}
+
+// Writes a sheet by a plan; `file` and `sname`: the plan uses them.
+fn write_plan(m: &mut [u8], s: &[u8], plan: u8, file: bool, sname: bool)
+    requires { ⌜ (240 ≤ length (now m)) × (leastRoom plan ≤ length (now m) - 240) × (file ≡ fileIn plan) × (sname ≡ snameIn plan) ⌝ }
+    ensures { λ _. ⌜ now (m .exit) ≡ written plan (now (m .entry)) (sheetRecords 0 (now (s .entry))) ⌝ }
+{
+    put_cookie(&mut m[236..240]);
+    let a = field_writer::fill_options(&mut m[240..], plan, s);
+    let b = fill_if(&mut m[108..236], file, s, a);
+    fill_if(&mut m[44..108], sname, s, b);
+}
+
+// The place in the sheet after a further field, where the plan uses it.
+fn place_if(used: bool, room: usize, s: &[u8], from: usize) -> usize
+    ensures { λ r. ⌜ r ≡ placeIf used room (now (s .entry)) from ⌝ }
+{
+    if used {
+        field_writer::place_after(room, s, from)
+    } else {
+        from
+    }
+}
+
+// END, and option 52 where the plan has it.
+fn least_room(plan: u8) -> usize
+    ensures { λ r. ⌜ r ≡ leastRoom plan ⌝ }
+{
+    if plan == 0 { 1 } else { 4 }
+}
+
+// The room that option 52 leaves, of n bytes.
+fn room_of(plan: u8, n: usize) -> usize
+    requires { ⌜ leastRoom plan ≤ n ⌝ }
+    ensures { λ r. ⌜ r ≡ past52 plan n ⌝ }
+{
+    if plan == 0 { n } else { n - 3 }
+}
+
+// Whether a plan leaves no record over, in a buffer of so many bytes; nothing is written.
+fn plan_fits(len: usize, s: &[u8], plan: u8, file: bool, sname: bool) -> bool
+    requires { ⌜ (240 ≤ len) × Whole (now s) × (file ≡ fileIn plan) × (sname ≡ snameIn plan) ⌝ }
+    ensures { λ r. ⌜ r ≡ planFits plan (len - 240) (sheetRecords 0 (now (s .entry))) ⌝ }
+{
+    let n = len - 240;
+    if n < least_room(plan) {
+        return false;
+    }
+    let a = field_writer::place_after(room_of(plan, n), s, 0);
+    let b = place_if(file, 128, s, a);
+    let c = place_if(sname, 64, s, b);
+    c == s.len()
+}
+
+// Writes a sheet by a plan where it fits, and else leaves the buffer as it was.
+fn try_plan(m: &mut [u8], s: &[u8], plan: u8, file: bool, sname: bool) -> bool
+    requires { ⌜ (240 ≤ length (now m)) × Whole (now s) × (file ≡ fileIn plan) × (sname ≡ snameIn plan) ⌝ }
+    ensures { λ r. ⌜ (r ≡ planFits plan (length (now (m .entry)) - 240) (sheetRecords 0 (now (s .entry)))) × (now (m .exit) ≡ cond r (written plan (now (m .entry)) (sheetRecords 0 (now (s .entry)))) (now (m .entry))) ⌝ }
+{
+    if plan_fits(m.len(), s, plan, file, sname) {
+        write_plan(m, s, plan, file, sname);
+        true
+    } else {
+        false
+    }
+}
+
+// The last plan to be tried.
+fn last_plan(m: &mut [u8], s: &[u8], plan: u8, file: bool, sname: bool) -> Wrote
+    requires { ⌜ (240 ≤ length (now m)) × Whole (now s) × (file ≡ fileIn plan) × (sname ≡ snameIn plan) ⌝ }
+    ensures { λ r. ⌜ Gives (tryPlans (plan ∷ []) (now (m .entry)) (sheetRecords 0 (now (s .entry)))) (now (m .entry)) r (now (m .exit)) ⌝ }
+{
+    if try_plan(m, s, plan, file, sname) {
+        Wrote::Plan(plan as u32)
+    } else {
+        Wrote::Refused {
+            number: 11,
+            place: m.len(),
+        }
+    }
+}
+
+// Tries the permitted plans, rising.
+fn write_plans(m: &mut [u8], s: &[u8], permission: u8) -> Wrote
+    requires { ⌜ (240 ≤ length (now m)) × Whole (now s) ⌝ }
+    ensures { λ r. ⌜ Gives (tryPlans (plans permission) (now (m .entry)) (sheetRecords 0 (now (s .entry)))) (now (m .entry)) r (now (m .exit)) ⌝ }
+{
+    if permission == 0 {
+        return last_plan(m, s, 0, false, false);
+    }
+    if try_plan(m, s, 0, false, false) {
+        return Wrote::Plan(0);
+    }
+    if permission == 1 {
+        return last_plan(m, s, 1, true, false);
+    }
+    if permission == 2 {
+        return last_plan(m, s, 2, false, true);
+    }
+    if try_plan(m, s, 1, true, false) {
+        return Wrote::Plan(1);
+    }
+    if try_plan(m, s, 2, false, true) {
+        return Wrote::Plan(2);
+    }
+    last_plan(m, s, 3, true, true)
+}
+
+// Writes a sheet into a buffer whose header is there. A refusal changes no byte.
+pub fn write(s: &[u8], m: &mut [u8], permission: u8) -> Wrote
+    ensures { λ r. ⌜ Gives (writer kinds (now (s .entry)) (now (m .entry)) permission) (now (m .entry)) r (now (m .exit)) ⌝ }
+{
+    if m.len() < 240 {
+        return Wrote::Refused {
+            number: 1,
+            place: m.len(),
+        };
+    }
+    if 1472 < m.len() {
+        return Wrote::Refused {
+            number: 2,
+            place: m.len(),
+        };
+    }
+    if 3 < permission {
+        return Wrote::Refused {
+            number: 15,
+            place: 0,
+        };
+    }
+    if 4096 < s.len() {
+        return Wrote::Refused {
+            number: 16,
+            place: s.len(),
+        };
+    }
+    let verdict = sheet::judge(s);
+    let number = verdict.number;
+    let place = verdict.place;
+    if number != 0 {
+        return Wrote::Refused { number, place };
+    }
+    write_plans(m, s, permission)
+}

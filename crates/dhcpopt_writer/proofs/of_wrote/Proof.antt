@@ -1,0 +1,19 @@
+-- `dhcpopt_writer::of_wrote` meets its contract. Assumes nothing.
+use borrow.Author.Needs.{needs}
+use Rattle.dhcpopt_writer.proofs.of_wrote.Statement.{statement}
+use Rattle.dhcpopt_writer.proofs.of_wrote.Tie as tie
+
+enum-known-w : tie.Need-enum-known-w
+enum-known-w c = search needs
+
+enum-known-w-2 : tie.Need-enum-known-w-2
+enum-known-w-2 c = search needs
+
+returns : tie.Need-returns
+returns c = rw (c .before .w .given .1)
+
+returns-2 : tie.Need-returns-2
+returns-2 c = rw (c .before .w2 .given .1)
+
+pub of-wrote-spec : {M : Type 1} → statement M
+of-wrote-spec = tie.close (tie.spec enum-known-w enum-known-w-2 returns returns-2)

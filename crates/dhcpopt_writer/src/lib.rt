@@ -1,0 +1,39 @@
+// The writer for C (document 01: "calls these on plain numbers and byte slices"): a library of its own, so that who only reads links no byte of it.
+ghost use mathlib.Core.Path.{_≡_};
+ghost use Rattle.options.specs.Kinds.{kinds};
+ghost use Rattle.options.specs.Writing as options;
+ghost use Rattle.dhcpopt_writer.specs.Plain.{plainWrote, plainOf};
+use writer::Wrote;
+
+// refusal: 0 where the sheet was written, and plan is the plan used; else its number, with its place, and the buffer is as it was.
+#[repr(C)]
+pub struct PlainWrote {
+    pub refusal: u32,
+    pub plan: u32,
+    pub place: usize,
+}
+
+fn of_wrote(w: Wrote) -> PlainWrote
+    ensures { λ r. ⌜ r ≡ plainOf w ⌝ }
+{
+    match w {
+        Wrote::Plan(plan) => PlainWrote {
+            refusal: 0,
+            plan,
+            place: 0,
+        },
+        Wrote::Refused { number, place } => PlainWrote {
+            refusal: number,
+            plan: 0,
+            place,
+        },
+    }
+}
+
+// Writes a settings sheet into a message buffer whose header is there.
+#[no_mangle]
+pub extern "C" fn dhcpopt_write(s: &[u8], m: &mut [u8], permission: u8) -> PlainWrote
+    ensures { λ r. ⌜ (r ≡ plainWrote (options.writer kinds (now (s .entry)) (now (m .entry)) permission)) × (now (m .exit) ≡ options.bufferAfter (now (m .entry)) (options.writer kinds (now (s .entry)) (now (m .entry)) permission)) ⌝ }
+{
+    of_wrote(writer::write(s, m, permission))
+}

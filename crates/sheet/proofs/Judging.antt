@@ -18,7 +18,7 @@ use Rattle.codeset.proofs.Words.{or-marked, or-unmarked}
 use Rattle.codeset.proofs.Codes.{marks-add, marks-none}
 use Rattle.sheet.specs.Judge.{judgeOf, firstBroken, rulesFor, threeAfter, oneAfter, orderOf}
 use Rattle.sheet.proofs.Rules.{clash, n, cut-is, size-is, body-length, tested-faulty, Kept, all-kept, tested-kept, sure, from-skip}
-use Rattle.sheet.proofs.Tags.{orderFrom, verdictFrom, keep-verdict, whole}
+use Rattle.sheet.proofs.ThreeOne.{orderFrom, verdictFrom, keep-verdict, whole}
 
 -- a tag is met again where marking it changes nothing
 again-is : (w : List ℕ) (c : ℕ) → eqb (bitOr (getD w (c / 64) 0) (2 ^ (c % 64))) (getD w (c / 64) 0) ≡ marked w c
@@ -29,14 +29,15 @@ again-is w c = go (eqb (bitOr (getD w (c / 64) 0) (2 ^ (c % 64))) (getD w (c / 6
     go false q = sym (or-unmarked (getD w (c / 64) 0) (c % 64) (eqb-false _ _ q))
 
 -- the words w mark the tags before `at`, and what is left gives the verdict
-pub record Judging (s w : List ℕ) (three : ℕ) (one : Bool) (at : ℕ) : Type 0 where
+pub record Judging (s w : List ℕ) (three : ℕ) (one : Bool) (k at : ℕ) : Type 0 where
   pub seen : List ℕ
   pub at-in : at ≤ length s
+  pub few : k ≤ at
   pub marks : Marks w seen
-  pub same : verdictFrom three one at (sheetFrom kinds seen at 0 (drop at s)) ≡ judgeOf s
+  pub same : verdictFrom three one k at (sheetFrom kinds seen at 0 (drop at s)) ≡ judgeOf s
 
-module _ (s w : List ℕ) (three : ℕ) (one : Bool) (at : ℕ) (f : Judging s w three one at) (h : at < length s) (small : getD s at 0 < 256) (k : ℕ)
-    (e : k ≡ firstBroken (rulesFor (eqb (bitOr (getD w (getD s at 0 / 64) 0) (2 ^ (getD s at 0 % 64))) (getD w (getD s at 0 / 64) 0)) (getD s at 0) (drop (suc at) s))) where
+module _ (s w : List ℕ) (three : ℕ) (one : Bool) (k at : ℕ) (f : Judging s w three one k at) (h : at < length s) (small : getD s at 0 < 256) (x : ℕ)
+    (e : x ≡ firstBroken (rulesFor (eqb (bitOr (getD w (getD s at 0 / 64) 0) (2 ^ (getD s at 0 % 64))) (getD w (getD s at 0 / 64) 0)) (getD s at 0) (drop (suc at) s))) where
   b : ℕ
   b = getD s at 0
 
@@ -47,18 +48,18 @@ module _ (s w : List ℕ) (three : ℕ) (one : Bool) (at : ℕ) (f : Judging s w
   unfolding b bs
   after = sheetFrom kinds (b ∷ f .seen) (at + 1) (suc (suc (sizeIn bs))) bs
 
-  e′ : k ≡ firstBroken (rules kinds (f .seen) b bs)
+  e′ : x ≡ firstBroken (rules kinds (f .seen) b bs)
   unfolding b bs
-  e′ = e ∙ ap (λ (x : Bool). firstBroken (rulesFor x b bs)) (again-is w b ∙ f .marks .bits b small)
+  e′ = e ∙ ap (λ (again : Bool). firstBroken (rulesFor again b bs)) (again-is w b ∙ f .marks .bits b small)
 
   here : sheetFrom kinds (f .seen) at 0 (drop at s) ≡ tested (rules kinds (f .seen) b bs) at (keep (sheetRecord b bs) after)
   unfolding b bs after sheetFrom
   here = ap (sheetFrom kinds (f .seen) at 0) (drop-cons s at 0 h)
 
-  pub refuses : (k ≡ 0 → ⊥) → record { number = k; place = at } ≡ judgeOf s
-  refuses z = sym (ap (verdictFrom three one at) (here ∙ tested-faulty (rules kinds (f .seen) b bs) at (keep (sheetRecord b bs) after) k e′ z)) ∙ f .same
+  pub refuses : (x ≡ 0 → ⊥) → record { number = x; place = at; records = 0 } ≡ judgeOf s
+  refuses z = sym (ap (verdictFrom three one k at) (here ∙ tested-faulty (rules kinds (f .seen) b bs) at (keep (sheetRecord b bs) after) x e′ z)) ∙ f .same
 
-  module _ (z : k ≡ 0) where
+  module _ (z : x ≡ 0) where
     kept : Kept (rules kinds (f .seen) b bs)
     kept = all-kept (rules kinds (f .seen) b bs) (sure (among b (f .seen)) b bs) (sym e′ ∙ z)
 
@@ -110,22 +111,22 @@ module _ (s w : List ℕ) (three : ℕ) (one : Bool) (at : ℕ) (f : Judging s w
     next-place : at + (3 + length (sheetRecord b bs .body)) ≡ at + 3 + low
     next-place = omega (arith, body-low)
 
-    goes-on : verdictFrom (threeAfter three one b (at + 1)) (oneAfter one b) (at + 3 + low) (sheetFrom kinds (b ∷ f .seen) (at + 3 + low) 0 (drop (at + 3 + low) s)) ≡ judgeOf s
+    goes-on : verdictFrom (threeAfter three one b (at + 1)) (oneAfter one b) (k + 1) (at + 3 + low) (sheetFrom kinds (b ∷ f .seen) (at + 3 + low) 0 (drop (at + 3 + low) s)) ≡ judgeOf s
     goes-on =
-        sym (ap₂ (λ (x : ℕ) (y : Sheet). verdictFrom (threeAfter three one b (at + 1)) (oneAfter one b) x y) next-place moved-on)
-        ∙ sym (keep-verdict three one at (sheetRecord b bs) after)
-        ∙ sym (ap (verdictFrom three one at) (here ∙ tested-kept (rules kinds (f .seen) b bs) at (keep (sheetRecord b bs) after) kept))
+        sym (ap₂ (verdictFrom (threeAfter three one b (at + 1)) (oneAfter one b) (k + 1)) next-place moved-on)
+        ∙ sym (keep-verdict three one k at (sheetRecord b bs) after)
+        ∙ sym (ap (verdictFrom three one k at) (here ∙ tested-kept (rules kinds (f .seen) b bs) at (keep (sheetRecord b bs) after) kept))
         ∙ f .same
 
-    pub moves : Judging s (withMark w (getD s at 0)) (threeAfter three one (getD s at 0) (at + 1)) (oneAfter one (getD s at 0)) (at + 3 + low)
+    pub moves : Judging s (withMark w (getD s at 0)) (threeAfter three one (getD s at 0) (at + 1)) (oneAfter one (getD s at 0)) (k + 1) (at + 3 + low)
     unfolding b
-    moves = record { seen = b ∷ f .seen; at-in = within; marks = marks-add w (f .seen) b small (kept .1 .1 .1 .0) (f .marks); same = goes-on }
+    moves = record { seen = b ∷ f .seen; at-in = within; few = omega (arith, f .few); marks = marks-add w (f .seen) b small (kept .1 .1 .1 .0) (f .marks); same = goes-on }
 
 -- where the loop begins, and where no record is left
-pub begins : (s : List ℕ) → Judging s (0 ∷ 0 ∷ 0 ∷ 0 ∷ []) 0 false 0
+pub begins : (s : List ℕ) → Judging s (0 ∷ 0 ∷ 0 ∷ 0 ∷ []) 0 false 0 0
 unfolding sheet judgeOf
-begins s = record { seen = []; at-in = omega arith; marks = marks-none; same = whole (sheet kinds s) }
+begins s = record { seen = []; at-in = omega arith; few = omega arith; marks = marks-none; same = whole (sheet kinds s) }
 
-pub ends : (s w : List ℕ) (three : ℕ) (one : Bool) (at : ℕ) → Judging s w three one at → length s ≤ at → orderOf three one ≡ judgeOf s
+pub ends : (s w : List ℕ) (three : ℕ) (one : Bool) (k at : ℕ) → Judging s w three one k at → length s ≤ at → orderOf three one k ≡ judgeOf s
 unfolding sheetFrom orderFrom
-ends s w three one at f h = sym (ap (λ (l : List ℕ). verdictFrom three one at (sheetFrom kinds (f .seen) at 0 l)) (drop-of-length-le s h)) ∙ f .same
+ends s w three one k at f h = sym (ap (λ (l : List ℕ). verdictFrom three one k at (sheetFrom kinds (f .seen) at 0 l)) (drop-of-length-le s h)) ∙ f .same

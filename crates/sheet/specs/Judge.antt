@@ -1,17 +1,20 @@
--- THE VERDICT ON A SHEET, as a number and a place: its first faulty record, then 14; 0 and 0 where there is no refusal. Assumes nothing.
+-- THE VERDICT ON A SHEET, as a number and a place: its first faulty record, then 14; 0, 0 and the number of its records where there is no refusal.
+-- Assumes nothing.
 use mathlib.Core.Bool.{Bool, cond}
 use mathlib.Core.List.{List, [], _∷_}
 use Prim.Native.Nat.{ℕ, _-_}
+use lib.ListN.{length}
 use lib.Dec.{eqb, ltb}
 use Rattle.options.specs.Reading.{either}
 use Rattle.options.specs.Kinds.{kinds}
 use Rattle.options.specs.Writing.{Sheet, sound, faulty, Rule, recordCut, wrongTag, sizeIn, sheetRecord, breaksKind, brokenBy, sheet, threeBeforeOne, placeOf3}
 use Rattle.sheet.specs.declared.Judged.{Judged}
+use Rattle.sheet.specs.declared.Tags.{Tags}
 
 -- "then the first faulty record, ..; then 14"
 abbrev pub verdict : Sheet → Judged
-verdict (faulty n p) = record { number = n; place = p }
-verdict (sound rs) = cond (threeBeforeOne rs) (record { number = 14; place = placeOf3 rs }) (record { number = 0; place = 0 })
+verdict (faulty n p) = record { number = n; place = p; records = 0 }
+verdict (sound rs) = cond (threeBeforeOne rs) (record { number = 14; place = placeOf3 rs; records = 0 }) (record { number = 0; place = 0; records = length rs })
 
 unfoldable pub judgeOf : List ℕ → Judged
 unfolding sheet
@@ -42,6 +45,11 @@ threeAfter three one c here = cond (eqb c 3) (cond one three (cond (eqb three 0)
 abbrev pub oneAfter : Bool → ℕ → Bool
 oneAfter one c = either (eqb c 1) one
 
+-- both
+abbrev pub tagsAfter : ℕ → Bool → ℕ → ℕ → Tags
+tagsAfter three one c here = record { three = threeAfter three one c here; one = oneAfter one c }
+
 -- 14: "tag 3 stands before tag 1; tag 3's byte"
-abbrev pub orderOf : ℕ → Bool → Judged
-orderOf three one = cond one (cond (eqb three 0) (record { number = 0; place = 0 }) (record { number = 14; place = three - 1 })) (record { number = 0; place = 0 })
+abbrev pub orderOf : ℕ → Bool → ℕ → Judged
+orderOf three one n =
+    cond one (cond (eqb three 0) (record { number = 0; place = 0; records = n }) (record { number = 14; place = three - 1; records = 0 })) (record { number = 0; place = 0; records = n })

@@ -2,12 +2,19 @@
 ghost use mathlib.Core.Path.{_≡_};
 ghost use Prim.Native.Nat.{suc, _<_, _/_};
 ghost use lib.ListN.{length, drop, getD};
-ghost use Rattle.sheet.specs.Judge.{judgeOf, firstBroken, rulesFor, threeAfter, oneAfter, orderOf};
+ghost use Rattle.sheet.specs.Judge.{judgeOf, firstBroken, rulesFor, threeAfter, oneAfter, tagsAfter, orderOf};
 
-// Number and place of a sheet's refusal; 0 and 0 where there is none.
+// Number and place of a sheet's refusal; 0, 0 and the number of records where there is none.
 pub struct Judged {
     pub number: u32,
     pub place: usize,
+    pub records: usize,
+}
+
+// What was met of tags 3 and 1, as in `tags_after`.
+pub struct Tags {
+    pub three: usize,
+    pub one: bool,
 }
 
 fn wide(x: u8) -> usize
@@ -78,25 +85,40 @@ fn one_after(one: bool, c: u8) -> bool
     if c == 1 { true } else { one }
 }
 
+// Both, after a record with tag c; most tags are neither.
+fn tags_after(three: usize, one: bool, c: u8, here: usize) -> Tags
+    ensures { λ r. ⌜ r ≡ tagsAfter three one c here ⌝ }
+{
+    if 3 < c {
+        return Tags { three, one };
+    }
+    let three = three_after(three, one, c, here);
+    let one = one_after(one, c);
+    Tags { three, one }
+}
+
 // A sheet without a faulty record: 14 where tag 1 was met and tag 3 before it.
-fn order(three: usize, one: bool) -> Judged
-    ensures { λ r. ⌜ r ≡ orderOf three one ⌝ }
+fn order(three: usize, one: bool, records: usize) -> Judged
+    ensures { λ r. ⌜ r ≡ orderOf three one records ⌝ }
 {
     if !one {
         return Judged {
             number: 0,
             place: 0,
+            records,
         };
     }
     if three == 0 {
         return Judged {
             number: 0,
             place: 0,
+            records,
         };
     }
     Judged {
         number: 14,
         place: three - 1,
+        records: 0,
     }
 }
 
@@ -107,6 +129,7 @@ pub fn judge(s: &[u8]) -> Judged
     let mut seen = [0u64; 4];
     let mut three: usize = 0;
     let mut one = false;
+    let mut records: usize = 0;
     let mut at: usize = 0;
     while at < s.len() {
         let c = s[at];
@@ -115,12 +138,18 @@ pub fn judge(s: &[u8]) -> Judged
         let new = old | (1u64 << (c % 64));
         let number = broken_rule(s, at, new == old);
         if number != 0 {
-            return Judged { number, place: at };
+            return Judged {
+                number,
+                place: at,
+                records: 0,
+            };
         }
         seen[k] = new;
-        three = three_after(three, one, c, at + 1);
-        one = one_after(one, c);
+        let tags = tags_after(three, one, c, at + 1);
+        three = tags.three;
+        one = tags.one;
+        records += 1;
         at = at + 3 + wide(s[at + 2]);
     }
-    order(three, one)
+    order(three, one, records)
 }

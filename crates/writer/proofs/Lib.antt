@@ -1,2 +1,3 @@
+pub mod FirstPlan
 pub mod Parts
 pub mod Trying

@@ -17,7 +17,7 @@ use Rattle.field_writer.proofs.Accepted.{accepted-records, accepted-whole}
 use Rattle.field_writer.proofs.Plans.{plan-fits}
 use Rattle.sheet.specs.Judge.{judgeOf}
 use Rattle.sheet.proofs.Verdicts.{Accepted, accepted, tries, refused}
-use Rattle.writer.specs.Writer.{leastRoom, placeIf, Whole, Gives}
+use Rattle.writer.specs.Writer.{leastRoom, placeIf, overloading, Whole, Gives}
 use Rattle.writer.specs.declared.Wrote.{Wrote}
 use Rattle.writer.specs.declared.Wrote.the-variants.{Plan, Refused}
 use Rattle.writer.proofs.Parts.{some-room, room-52}
@@ -26,6 +26,13 @@ use Rattle.writer.proofs.Parts.{some-room, room-52}
 
 clash {ℓ} : {X : Type ℓ} → _≡_ {A = ℕ} 0 1 → X
 clash e = absurd (omega arith)
+
+-- a plan that overloads has option 52 and END
+pub four : (p : ℕ) → 1 ≤ p → leastRoom p ≡ 4
+four p h = rw (ne-eqb p 0 (λ e. omega arith))
+
+pub past-three : (p n : ℕ) → 1 ≤ p → past52 p n ≡ n - 3
+past-three p n h = rw (ne-eqb p 0 (λ e. omega arith))
 
 pub no-room : (p n : ℕ) (rs : List Rec) → n < leastRoom p → false ≡ planFits p n rs
 unfolding planFits
@@ -71,26 +78,26 @@ pub none-fits : (m : List ℕ) (rs : List Rec) → Gives (tryPlans [] m rs) m (R
 unfolding tryPlans
 none-fits m rs = record { answer = refl; buffer = refl }
 
-pub plans-0 : (permission : ℕ) → permission ≡ 0 → plans permission ≡ 0 ∷ []
-plans-0 permission e = rw (eq-eqb permission 0 e)
-
-pub plans-1 : (permission : ℕ) → (permission ≡ 0 → ⊥) → permission ≡ 1 → plans permission ≡ 0 ∷ 1 ∷ []
-plans-1 permission n e = rw (ne-eqb permission 0 n, eq-eqb permission 1 e)
-
-pub plans-2 : (permission : ℕ) → (permission ≡ 0 → ⊥) → (permission ≡ 1 → ⊥) → permission ≡ 2 → plans permission ≡ 0 ∷ 2 ∷ []
-plans-2 permission n n1 e = rw (ne-eqb permission 0 n, ne-eqb permission 1 n1, eq-eqb permission 2 e)
-
-pub plans-3 : (permission : ℕ) → (permission ≡ 0 → ⊥) → (permission ≡ 1 → ⊥) → (permission ≡ 2 → ⊥) → plans permission ≡ 0 ∷ 1 ∷ 2 ∷ 3 ∷ []
-plans-3 permission n n1 n2 = rw (ne-eqb permission 0 n, ne-eqb permission 1 n1, ne-eqb permission 2 n2)
-
-pub plans-any : (permission : ℕ) → (ps : List ℕ) × (plans permission ≡ 0 ∷ ps)
-plans-any permission = go (eqb permission 0) (eqb permission 1) (eqb permission 2)
+pub plans-are : (permission : ℕ) → plans permission ≡ 0 ∷ overloading permission
+plans-are permission = go (eqb permission 0) (eqb permission 1) (eqb permission 2)
   where
-    go : (a b c : Bool) → (ps : List ℕ) × (cond a (0 ∷ []) (cond b (0 ∷ 1 ∷ []) (cond c (0 ∷ 2 ∷ []) (0 ∷ 1 ∷ 2 ∷ 3 ∷ []))) ≡ 0 ∷ ps)
-    go true b c = ([], refl)
-    go false true c = (1 ∷ [], refl)
-    go false false true = (2 ∷ [], refl)
-    go false false false = (1 ∷ 2 ∷ 3 ∷ [], refl)
+    go : (a b c : Bool) → cond {A = List ℕ} a (0 ∷ []) (cond b (0 ∷ 1 ∷ []) (cond c (0 ∷ 2 ∷ []) (0 ∷ 1 ∷ 2 ∷ 3 ∷ []))) ≡ 0 ∷ cond a [] (cond b (1 ∷ []) (cond c (2 ∷ []) (1 ∷ 2 ∷ 3 ∷ [])))
+    go true b c = refl
+    go false true c = refl
+    go false false true = refl
+    go false false false = refl
+
+pub overloading-0 : (permission : ℕ) → permission ≡ 0 → overloading permission ≡ []
+overloading-0 permission e = rw (eq-eqb permission 0 e)
+
+pub overloading-1 : (permission : ℕ) → (permission ≡ 0 → ⊥) → permission ≡ 1 → overloading permission ≡ 1 ∷ []
+overloading-1 permission n e = rw (ne-eqb permission 0 n, eq-eqb permission 1 e)
+
+pub overloading-2 : (permission : ℕ) → (permission ≡ 0 → ⊥) → (permission ≡ 1 → ⊥) → permission ≡ 2 → overloading permission ≡ 2 ∷ []
+overloading-2 permission n n1 e = rw (ne-eqb permission 0 n, ne-eqb permission 1 n1, eq-eqb permission 2 e)
+
+pub overloading-3 : (permission : ℕ) → (permission ≡ 0 → ⊥) → (permission ≡ 1 → ⊥) → (permission ≡ 2 → ⊥) → overloading permission ≡ 1 ∷ 2 ∷ 3 ∷ []
+overloading-3 permission n n1 n2 = rw (ne-eqb permission 0 n, ne-eqb permission 1 n1, ne-eqb permission 2 n2)
 
 -- ---- The tests before the plans
 
@@ -132,3 +139,8 @@ pub whole-sheet : (s : List ℕ) → judgeOf s .number ≡ 0 → Whole s
 whole-sheet s z =
     let a : Accepted s = accepted s z in
     omega (arith, accepted-whole kinds s (a .records) (a .parsed))
+
+pub counted : (s : List ℕ) → judgeOf s .number ≡ 0 → judgeOf s .records ≡ length (sheetRecords 0 s)
+counted s z =
+    let a : Accepted s = accepted s z in
+    a .counted ∙ ap (λ (rs : List Rec). length rs) (sym (accepted-records kinds s (a .records) (a .parsed)))

@@ -1,6 +1,6 @@
 -- THE WRITER'S ANSWER, and what it leaves in the buffer. Assumes nothing.
 use mathlib.Core.Path.{_≡_}
-use mathlib.Core.List.{List}
+use mathlib.Core.List.{List, [], _∷_}
 use mathlib.Core.Bool.{Bool, cond}
 use Prim.Native.Nat.{ℕ, _+_}
 use lib.ListN.{length, drop}
@@ -26,6 +26,13 @@ pub record Gives (w : options.Wrote) (m : List ℕ) (r : Wrote) (m′ : List ℕ
 -- END, and option 52 where plan p has it
 abbrev pub leastRoom : ℕ → ℕ
 leastRoom p = cond (eqb p 0) 1 4
+
+-- the permitted plans after plan 0
+abbrev pub overloading : ℕ → List ℕ
+overloading permission =
+    cond (eqb permission 0) []
+    (cond (eqb permission 1) (1 ∷ [])
+    (cond (eqb permission 2) (2 ∷ []) (1 ∷ 2 ∷ 3 ∷ [])))
 
 -- the place after a further field of n bytes, where the plan uses it
 abbrev pub placeIf : Bool → ℕ → List ℕ → ℕ → ℕ

@@ -8,8 +8,8 @@ ghost use Rattle.options.specs.Message.{cookie};
 ghost use Rattle.options.specs.Reading.{fileIn, snameIn};
 ghost use Rattle.options.specs.Kinds.{kinds};
 ghost use Rattle.options.specs.Writing.{written, planFits, plans, tryPlans, writer};
-ghost use Rattle.field_writer.specs.Fill.{sheetRecords, filled, past52};
-ghost use Rattle.writer.specs.Writer.{leastRoom, placeIf, Whole, Gives};
+ghost use Rattle.field_writer.specs.Fill.{sheetRecords, filled};
+ghost use Rattle.writer.specs.Writer.{leastRoom, placeIf, overloading, Whole, Gives};
 
 // The plan that was used, or number and place of the refusal.
 pub enum Wrote {
@@ -60,39 +60,24 @@ fn place_if(used: bool, room: usize, s: &[u8], from: usize) -> usize
     }
 }
 
-// END, and option 52 where the plan has it.
-fn least_room(plan: u8) -> usize
-    ensures { λ r. ⌜ r ≡ leastRoom plan ⌝ }
-{
-    if plan == 0 { 1 } else { 4 }
-}
-
-// The room that option 52 leaves, of n bytes.
-fn room_of(plan: u8, n: usize) -> usize
-    requires { ⌜ leastRoom plan ≤ n ⌝ }
-    ensures { λ r. ⌜ r ≡ past52 plan n ⌝ }
-{
-    if plan == 0 { n } else { n - 3 }
-}
-
-// Whether a plan leaves no record over, in a buffer of so many bytes; nothing is written.
+// Whether a plan that overloads leaves no record over, in a buffer of so many bytes; nothing is written.
 fn plan_fits(len: usize, s: &[u8], plan: u8, file: bool, sname: bool) -> bool
-    requires { ⌜ (240 ≤ len) × Whole (now s) × (file ≡ fileIn plan) × (sname ≡ snameIn plan) ⌝ }
+    requires { ⌜ (240 ≤ len) × (1 ≤ plan) × Whole (now s) × (file ≡ fileIn plan) × (sname ≡ snameIn plan) ⌝ }
     ensures { λ r. ⌜ r ≡ planFits plan (len - 240) (sheetRecords 0 (now (s .entry))) ⌝ }
 {
     let n = len - 240;
-    if n < least_room(plan) {
+    if n < 4 {
         return false;
     }
-    let a = field_writer::place_after(room_of(plan, n), s, 0);
+    let a = field_writer::place_after(n - 3, s, 0);
     let b = place_if(file, 128, s, a);
     let c = place_if(sname, 64, s, b);
     c == s.len()
 }
 
-// Writes a sheet by a plan where it fits, and else leaves the buffer as it was.
+// Writes a sheet by a plan that overloads where it fits, and else leaves the buffer as it was.
 fn try_plan(m: &mut [u8], s: &[u8], plan: u8, file: bool, sname: bool) -> bool
-    requires { ⌜ (240 ≤ length (now m)) × Whole (now s) × (file ≡ fileIn plan) × (sname ≡ snameIn plan) ⌝ }
+    requires { ⌜ (240 ≤ length (now m)) × (1 ≤ plan) × Whole (now s) × (file ≡ fileIn plan) × (sname ≡ snameIn plan) ⌝ }
     ensures { λ r. ⌜ (r ≡ planFits plan (length (now (m .entry)) - 240) (sheetRecords 0 (now (s .entry)))) × (now (m .exit) ≡ cond r (written plan (now (m .entry)) (sheetRecords 0 (now (s .entry)))) (now (m .entry))) ⌝ }
 {
     if plan_fits(m.len(), s, plan, file, sname) {
@@ -105,7 +90,7 @@ fn try_plan(m: &mut [u8], s: &[u8], plan: u8, file: bool, sname: bool) -> bool
 
 // The last plan to be tried.
 fn last_plan(m: &mut [u8], s: &[u8], plan: u8, file: bool, sname: bool) -> Wrote
-    requires { ⌜ (240 ≤ length (now m)) × Whole (now s) × (file ≡ fileIn plan) × (sname ≡ snameIn plan) ⌝ }
+    requires { ⌜ (240 ≤ length (now m)) × (1 ≤ plan) × Whole (now s) × (file ≡ fileIn plan) × (sname ≡ snameIn plan) ⌝ }
     ensures { λ r. ⌜ Gives (tryPlans (plan ∷ []) (now (m .entry)) (sheetRecords 0 (now (s .entry)))) (now (m .entry)) r (now (m .exit)) ⌝ }
 {
     if try_plan(m, s, plan, file, sname) {
@@ -118,16 +103,16 @@ fn last_plan(m: &mut [u8], s: &[u8], plan: u8, file: bool, sname: bool) -> Wrote
     }
 }
 
-// Tries the permitted plans, rising.
-fn write_plans(m: &mut [u8], s: &[u8], permission: u8) -> Wrote
+// Tries the permitted plans that overload, rising.
+fn overload_plans(m: &mut [u8], s: &[u8], permission: u8) -> Wrote
     requires { ⌜ (240 ≤ length (now m)) × Whole (now s) ⌝ }
-    ensures { λ r. ⌜ Gives (tryPlans (plans permission) (now (m .entry)) (sheetRecords 0 (now (s .entry)))) (now (m .entry)) r (now (m .exit)) ⌝ }
+    ensures { λ r. ⌜ Gives (tryPlans (overloading permission) (now (m .entry)) (sheetRecords 0 (now (s .entry)))) (now (m .entry)) r (now (m .exit)) ⌝ }
 {
     if permission == 0 {
-        return last_plan(m, s, 0, false, false);
-    }
-    if try_plan(m, s, 0, false, false) {
-        return Wrote::Plan(0);
+        return Wrote::Refused {
+            number: 11,
+            place: m.len(),
+        };
     }
     if permission == 1 {
         return last_plan(m, s, 1, true, false);
@@ -142,6 +127,18 @@ fn write_plans(m: &mut [u8], s: &[u8], permission: u8) -> Wrote
         return Wrote::Plan(2);
     }
     last_plan(m, s, 3, true, true)
+}
+
+// Plan 0 first. An option is one byte shorter than its record, so their number tells whether all fit.
+fn write_plans(m: &mut [u8], s: &[u8], records: usize, permission: u8) -> Wrote
+    requires { ⌜ (240 ≤ length (now m)) × Whole (now s) × (records ≡ length (sheetRecords 0 (now s))) ⌝ }
+    ensures { λ r. ⌜ Gives (tryPlans (plans permission) (now (m .entry)) (sheetRecords 0 (now (s .entry)))) (now (m .entry)) r (now (m .exit)) ⌝ }
+{
+    if s.len() - records < m.len() - 240 {
+        write_plan(m, s, 0, false, false);
+        return Wrote::Plan(0);
+    }
+    overload_plans(m, s, permission)
 }
 
 // Writes a sheet into a buffer whose header is there. A refusal changes no byte.
@@ -178,5 +175,5 @@ pub fn write(s: &[u8], m: &mut [u8], permission: u8) -> Wrote
     if number != 0 {
         return Wrote::Refused { number, place };
     }
-    write_plans(m, s, permission)
+    write_plans(m, s, verdict.records, permission)
 }

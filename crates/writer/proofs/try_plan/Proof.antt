@@ -15,7 +15,7 @@ plan-fits-requires c κs = search needs
 write-plan-requires : tie.Need-write-plan-requires
 write-plan-requires c κs =
     let start = c .before .before .before .before .before in
-    (start .pre .0, has-room (start .args .plan) (length (now (start .args .m)) - 240) (sheetRecords 0 (now (start .args .s))) (sym (c .before .before .plan-fits .ensures) ∙ c .before .if1 .taken), start .pre .2, start .pre .3)
+    (start .pre .0, has-room (start .args .plan) (length (now (start .args .m)) - 240) (sheetRecords 0 (now (start .args .s))) (sym (c .before .before .plan-fits .ensures) ∙ c .before .if1 .taken), start .pre .3, start .pre .4)
 
 same-length : tie.Need-same-length
 same-length c = search needs

@@ -3,7 +3,7 @@ use mathlib.Core.Path.{_≡_, sym, ap, _∙_}
 use denote.Ref.{now}
 use Rattle.sheet.specs.Judge.{judgeOf}
 use Rattle.sheet.specs.declared.Judged.{Judged}
-use Rattle.writer.proofs.Trying.{too-short, too-long, no-such, sheet-long, faulty-sheet, sound-sheet, whole-sheet}
+use Rattle.writer.proofs.Trying.{too-short, too-long, no-such, sheet-long, faulty-sheet, sound-sheet, whole-sheet, counted}
 use borrow.Author.Needs.{needs}
 use Rattle.writer.proofs.write.Statement.{statement}
 use Rattle.writer.proofs.write.Tie as tie
@@ -31,7 +31,7 @@ returns-5 : tie.Need-returns-5
 returns-5 c = faulty-sheet (now (c .before .before .before .before .before .before .before .before .args .s)) (now (c .before .before .before .before .before .before .before .before .args .m)) (c .before .before .before .before .before .before .before .before .args .permission) (c .before .before .before .before .before .if1 .left) (c .before .before .before .before .if2 .left) (c .before .before .before .if3 .left) (c .before .before .if4 .left) _ _ (ap (λ (j : Judged). j .number) (c .before .judge .ensures)) (ap (λ (j : Judged). j .place) (c .before .judge .ensures)) (c .if5 .taken)
 
 write-plans-requires : tie.Need-write-plans-requires
-write-plans-requires c κs = (c .before .before .before .before .before .before .if1 .left, whole-sheet (now (c .before .before .before .before .before .before .before .before .before .args .s)) (no-number (c .before)))
+write-plans-requires c κs = (c .before .before .before .before .before .before .if1 .left, whole-sheet (now (c .before .before .before .before .before .before .before .before .before .args .s)) (no-number (c .before)), ap (λ (j : Judged). j .records) (c .before .before .judge .ensures) ∙ counted (now (c .before .before .before .before .before .before .before .before .before .args .s)) (no-number (c .before)))
 
 same-length : tie.Need-same-length
 same-length c = search needs

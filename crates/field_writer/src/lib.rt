@@ -80,17 +80,17 @@ fn next_size(s: &[u8], at: usize, room: usize) -> usize
 pub fn place_after(room: usize, s: &[u8], from: usize) -> usize
     ensures { λ r. ⌜ r ≡ from + taken room (sheetRecords 0 (drop from (now (s .entry)))) ⌝ }
 {
-    let mut at = from;
+    let mut place = from;
     let mut left = room;
-    while at < s.len() {
-        let k = next_size(s, at, left);
+    while place < s.len() {
+        let k = next_size(s, place, left);
         if k == 0 {
             break;
         }
         left -= k - 1;
-        at += k;
+        place += k;
     }
-    at
+    place
 }
 
 // Writes the records from a place of the sheet on, "while each fits with one byte kept for END", then END and zeros. The result is the place

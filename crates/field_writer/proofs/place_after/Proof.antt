@@ -10,14 +10,14 @@ use Rattle.field_writer.proofs.place_after.Statement.{statement}
 use Rattle.field_writer.proofs.place_after.Tie as tie
 
 abbrev Inv-loop : tie.InvT-loop
-Inv-loop room s from at₀ left₀ at left = Counting room s from at left
+Inv-loop room s from place₀ left₀ place left = Counting room s from place left
 
 abbrev μ-loop : tie.MeasureT-loop
-μ-loop room s from at₀ left₀ at left = length s - at
+μ-loop room s from place₀ left₀ place left = length s - place
 
 -- the record at the place that the loop has reached
 turn : (c : tie.Else1 Inv-loop μ-loop)
-    → Next (now (c .before .before .before .before .before .args .s)) (c .before .before .before .loop .at)
+    → Next (now (c .before .before .before .before .before .args .s)) (c .before .before .before .loop .place)
     (c .before .before .before .loop .left) (c .before .next-size .result)
 turn c = next (now (c .before .before .before .before .before .args .s)) _ _ (c .before .next-size .result) (c .before .next-size .ensures) (c .if1 .left)
 
@@ -33,8 +33,8 @@ sub-left c = omega (arith, turn c .within, turn c .least, turn c .room)
 sub-left-2 : tie.Need-sub-left-2 Inv-loop μ-loop
 sub-left-2 c = omega (arith, turn c .within, turn c .least, turn c .room)
 
-add-at : tie.Need-add-at Inv-loop μ-loop
-add-at c = omega (arith, turn c .within, turn c .least, turn c .room)
+add-place : tie.Need-add-place Inv-loop μ-loop
+add-place c = omega (arith, turn c .within, turn c .least, turn c .room)
 
 loop-less : tie.Need-loop-less Inv-loop μ-loop
 loop-less c = omega (arith, turn c .within, turn c .least, turn c .room)
@@ -42,18 +42,18 @@ loop-less c = omega (arith, turn c .within, turn c .least, turn c .room)
 loop-again : tie.Need-loop-again Inv-loop μ-loop
 loop-again c =
     let loop = c .before .before .before .loop in
-    counting-more _ _ _ (loop .at) (loop .left) _ (loop .inv) (turn c)
+    counting-more _ _ _ (loop .place) (loop .left) _ (loop .inv) (turn c)
 
 returns : tie.Need-returns Inv-loop μ-loop
 returns c =
     let loop = c .before .loop in
     let s = now (c .before .before .before .args .s) in
-    counted _ s _ (loop .at) (loop .left) (loop .inv) (at-end (loop .left) s (loop .at) (c .loop-test .left))
+    counted _ s _ (loop .place) (loop .left) (loop .inv) (at-end (loop .left) s (loop .place) (c .loop-test .left))
 
 returns-2 : tie.Need-returns-2 Inv-loop μ-loop
 returns-2 c =
     let loop = c .before .before .before .loop in
-    counted _ (now (c .before .before .before .before .before .args .s)) _ (loop .at) (loop .left) (loop .inv) (sym (c .before .next-size .ensures) ∙ c .if1 .taken)
+    counted _ (now (c .before .before .before .before .before .args .s)) _ (loop .place) (loop .left) (loop .inv) (sym (c .before .next-size .ensures) ∙ c .if1 .taken)
 
 pub place-after-spec : {M : Type 1} → statement M
 place-after-spec =
@@ -65,7 +65,7 @@ place-after-spec =
     next-size-requires
     sub-left
     sub-left-2
-    add-at
+    add-place
     loop-less
     loop-again
     returns

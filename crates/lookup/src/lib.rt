@@ -6,7 +6,7 @@ ghost use lib.ListN.{length};
 ghost use Rattle.wire.specs.Walk.{hitOf};
 ghost use Rattle.options.specs.Kinds.{kinds, Table};
 ghost use Rattle.options.specs.CodeSet.{marked};
-ghost use Rattle.options.specs.Answers.{lookup, bytesOf, dataOf, textOf};
+ghost use Rattle.options.specs.Answers.{lookup, bytesOf, dataOf, textIn, textOf};
 ghost use Rattle.lookup.specs.Shown.{answerOf, valueOf, foundIn, extentOf, extentIn, clipped, placeOf};
 use wire::Walked;
 
@@ -197,15 +197,44 @@ pub fn data(m: &[u8], code: u8) -> &[u8]
     message::part(m, e.start, e.len)
 }
 
+// The text part of an option that was met, or not. It has tests of its own, since the whole answer of a lookup would be made only to be taken apart.
+fn text_in(m: &[u8], known: [u64; 4], code: u8, w: Walked) -> Extent
+    requires { ⌜ (w .offset ≤ 65536) × ((w .field ≡ 0 → ⊥) → placeOf (hitOf w) + 2 + w .len ≤ length (now m)) ⌝ }
+    ensures { λ r. ⌜ extentOf r ≡ textIn (foundIn (now (m .entry)) (marked known) code (hitOf w)) ⌝ }
+{
+    if w.field == 0 {
+        return Extent { start: 0, len: 0 };
+    }
+    if kinds::kind(code) != kinds::TEXT {
+        return Extent { start: 0, len: 0 };
+    }
+    if !codeset::contains(known, code) {
+        return Extent { start: 0, len: 0 };
+    }
+    let start = place_of(w) + 2;
+    let end = start + wide(w.len);
+    let d = &m[start..end];
+    if kinds::fault(code, d) != 0 {
+        return Extent { start: 0, len: 0 };
+    }
+    clip(start, kinds::text_len(d))
+}
+
 // Where the text of a code stands, without its trailing zeros.
 pub fn text_extent(m: &[u8], known: [u64; 4], code: u8) -> Extent
     ensures { λ r. ⌜ extentOf r ≡ textOf (marked known) (now (m .entry)) code ⌝ }
 {
-    let a = lookup(m, known, code);
-    match a {
-        Answer::Text { start, len } => clip(start, len),
-        _ => Extent { start: 0, len: 0 },
+    if code == 0 {
+        return Extent { start: 0, len: 0 };
     }
+    if code == 255 {
+        return Extent { start: 0, len: 0 };
+    }
+    let w = message::scan(m, code);
+    if w.number != 0 {
+        return Extent { start: 0, len: 0 };
+    }
+    text_in(m, known, code, w)
 }
 
 // The text of a code, as a part of the message; empty unless the lookup answers text.

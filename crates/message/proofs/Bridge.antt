@@ -18,7 +18,7 @@ use Rattle.wire.specs.Walk.{noState, stopped, sizeOf, overWrong, overAfter, not
 use Rattle.wire.specs.Walk.{State}
 use Rattle.wire.specs.Walk.{Walked}
 use Rattle.wire.specs.Walk.{Closed, Fault}
-use Rattle.message.specs.Scan.{keptAll, usedBy, scanIn, scanOf, joined, walkIf}
+use Rattle.message.specs.Scan.{keptAll, usedBy, scanIn, scanOf, joined, walkIf, walked}
 
 -- ---- codes are bytes
 
@@ -231,10 +231,6 @@ file-over (suc v) e = ne-eqb (suc v) 0 (omega arith)
 sname-over : (v : ℕ) → snameIn v ≡ true → eqb v 0 ≡ false
 sname-over zero e = absurd (let z : _≡_ {A = ℕ} 0 1 = cc in omega arith)
 sname-over (suc v) e = ne-eqb (suc v) 0 (omega arith)
-
--- what the code gives, once the length and the cookie are right
-abbrev pub walked : ℕ → List ℕ → Walked → Walked
-walked want m a = walkIf (snameIn (a .state .over)) sname want (bytes sname m) (walkIf (fileIn (a .state .over)) file want (bytes file m) a)
 
 module _ (want : ℕ) (m : List ℕ) (b : AllBytes m) where
   abbrev v : ℕ

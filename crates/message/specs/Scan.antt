@@ -4,8 +4,8 @@ use mathlib.Core.Bool.{Bool, true, false}
 use mathlib.Core.List.{List, [], _∷_}
 use Prim.Native.Nat.{ℕ, _+_, _≤_}
 use lib.ListN.{length}
-use Rattle.options.specs.Message.{Field, turn, Rec, Opt}
-use Rattle.options.specs.Reading.{Reading, accepted, refused, items, readMessage}
+use Rattle.options.specs.Message.{Field, file, sname, turn, bytes, Rec, Opt}
+use Rattle.options.specs.Reading.{Reading, accepted, refused, items, readMessage, fileIn, snameIn}
 use Rattle.wire.specs.Walk.{State, End, Closed, Fault, Walked, walkedOf, noState, stopped, sizeOf, noted, walkField}
 use Rattle.wire.specs.declared.Walked as flat
 
@@ -43,6 +43,10 @@ walkAfter Closed fd want f w = joined (w .used) (walkField fd want (w .state) f)
 unfoldable pub walkIf : Bool → Field → ℕ → List ℕ → Walked → Walked
 walkIf false fd want f w = w
 walkIf true fd want f w = walkAfter (w .end) fd want f w
+
+-- the further fields, by the value of option 52
+abbrev pub walked : ℕ → List ℕ → Walked → Walked
+walked want m a = walkIf (snameIn (a .state .over)) sname want (bytes sname m) (walkIf (fileIn (a .state .over)) file want (bytes file m) a)
 
 -- r is what is wanted, and its options take at most the field more than those of w
 pub record Grown (w : flat.Walked) (f : List ℕ) (wanted : Walked) (r : flat.Walked) : Type 0 where

@@ -9,8 +9,9 @@ use Rattle.options.specs.Message.{options}
 use Rattle.options.specs.KindClaims.{AllBytes}
 use Rattle.wire.specs.Walk.{noState, walkedOf, walkField}
 use Rattle.wire.specs.declared.Walked as flat
+use Rattle.message.specs.Scan.{walked}
 use Rattle.message.proofs.Laws.{take-rest}
-use Rattle.message.proofs.Bridge.{all-bytes, walked, walked-none, scan-short, scan-long, scan-cookie, scan-fields}
+use Rattle.message.proofs.Bridge.{all-bytes, walked-none, scan-short, scan-long, scan-cookie, scan-fields}
 use Rattle.message.proofs.scan.Statement.{statement}
 use Rattle.message.proofs.scan.Tie as tie
 
@@ -65,45 +66,18 @@ returns-4 c =
     let e : walkedOf (c .before .walk .result) ≡ walkField options (a .want) noState (drop 240 m) = rw (← take-rest m 240) (c .before .walk .ensures .is ∙ ap (λ (x : flat.Walked). walkField options (a .want) (walkedOf x .state) (take (length m - 240) (drop 240 m))) (c .before .before .stop4 .ensures)) in
     record { is = walked-none (a .want) m (walkedOf (c .before .walk .result)) (c .if4 .taken) ∙ ap (walked (a .want) m) e ∙ w; no-place = c .before .walk .ensures .no-place }
 
-file-on-requires : tie.Need-file-on-requires
-file-on-requires c κs = search needs
-
-sub-walk-if : tie.Need-sub-walk-if
-sub-walk-if c = search needs
-
-part-walk-if-start : tie.Need-part-walk-if-start
-part-walk-if-start c = search needs
-
-part-walk-if-end : tie.Need-part-walk-if-end
-part-walk-if-end c = search needs
-
-walk-if-requires : tie.Need-walk-if-requires
-walk-if-requires c κs = (omega (arith, c .before .before .before .walk .ensures .within), search needs, c .before .before .before .walk .ensures .no-place)
-
-sname-on-requires : tie.Need-sname-on-requires
-sname-on-requires c κs = search needs
-
-sub-walk-if-2 : tie.Need-sub-walk-if-2
-sub-walk-if-2 c = search needs
-
-part-walk-if-start-2 : tie.Need-part-walk-if-start-2
-part-walk-if-start-2 c = search needs
-
-part-walk-if-end-2 : tie.Need-part-walk-if-end-2
-part-walk-if-end-2 c = search needs
-
-walk-if-requires-2 : tie.Need-walk-if-requires-2
-walk-if-requires-2 c κs = (omega (arith, c .before .before .walk-if .ensures .within, c .before .before .before .before .before .before .walk .ensures .within), search needs, c .before .before .walk-if .ensures .no-place)
+further-requires : tie.Need-further-requires
+further-requires c κs = (c .before .before .before .before .before .before .before .if1 .left, omega (arith, c .before .walk .ensures .within, c .before .before .before .before .before .before .if2 .left), c .before .walk .ensures .no-place)
 
 returns-5 : tie.Need-returns-5
 returns-5 c =
-    let s = c .before .before .before .before .before .before .before .before .before .before .before .before .before .before .before in
+    let s = c .before .before .before .before .before .before .before .before .before .before in
     let a = s .args in
     let m = a .m .now in
-    let k : AllBytes m = all-bytes m (λ i. c .before .before .before .before .before .before .before .before .before .before .before .before .before .before .shared-slice-known .given i .fits) in
-    let w = scan-fields (a .want) m k (c .before .before .before .before .before .before .before .before .before .before .before .before .before .if1 .left) (c .before .before .before .before .before .before .before .before .before .before .before .before .if2 .left) (sym (c .before .before .before .before .before .before .before .before .before .before .before .cookie-ok .ensures) ∙ not-false (c .before .before .before .before .before .before .before .before .before .before .before .cookie-ok .result) (c .before .before .before .before .before .before .before .before .before .before .if3 .left)) in
-    let e : walkedOf (c .before .before .before .before .before .before .before .walk .result) ≡ walkField options (a .want) noState (drop 240 m) = rw (← take-rest m 240) (c .before .before .before .before .before .before .before .walk .ensures .is ∙ ap (λ (x : flat.Walked). walkField options (a .want) (walkedOf x .state) (take (length m - 240) (drop 240 m))) (c .before .before .before .before .before .before .before .before .stop4 .ensures)) in
-    record { is = rw (c .walk-if2 .ensures .is, c .before .before .sname-on .ensures, c .before .before .before .walk-if .ensures .is, c .before .before .before .before .before .file-on .ensures) (ap (walked (a .want) m) e ∙ w); no-place = c .walk-if2 .ensures .no-place }
+    let k : AllBytes m = all-bytes m (λ i. c .before .before .before .before .before .before .before .before .before .shared-slice-known .given i .fits) in
+    let w = scan-fields (a .want) m k (c .before .before .before .before .before .before .before .before .if1 .left) (c .before .before .before .before .before .before .before .if2 .left) (sym (c .before .before .before .before .before .before .cookie-ok .ensures) ∙ not-false (c .before .before .before .before .before .before .cookie-ok .result) (c .before .before .before .before .before .if3 .left)) in
+    let e : walkedOf (c .before .before .walk .result) ≡ walkField options (a .want) noState (drop 240 m) = rw (← take-rest m 240) (c .before .before .walk .ensures .is ∙ ap (λ (x : flat.Walked). walkField options (a .want) (walkedOf x .state) (take (length m - 240) (drop 240 m))) (c .before .before .before .stop4 .ensures)) in
+    record { is = c .further .ensures .is ∙ ap (walked (a .want) m) e ∙ w; no-place = c .further .ensures .no-place }
 
 pub scan-spec : {M : Type 1} → statement M
 scan-spec =
@@ -122,14 +96,5 @@ scan-spec =
     stop-requires-4
     walk-requires
     returns-4
-    file-on-requires
-    sub-walk-if
-    part-walk-if-start
-    part-walk-if-end
-    walk-if-requires
-    sname-on-requires
-    sub-walk-if-2
-    part-walk-if-start-2
-    part-walk-if-end-2
-    walk-if-requires-2
+    further-requires
     returns-5)

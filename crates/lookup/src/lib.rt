@@ -197,7 +197,7 @@ pub fn data(m: &[u8], code: u8) -> &[u8]
     message::part(m, e.start, e.len)
 }
 
-// The text part of an option that was met, or not. It has tests of its own, since the whole answer of a lookup would be made only to be taken apart.
+// The text part of an option that was met, or not. A text of length 0, which is refused, has an empty part as well.
 fn text_in(m: &[u8], known: [u64; 4], code: u8, w: Walked) -> Extent
     requires { ⌜ (w .offset ≤ 65536) × ((w .field ≡ 0 → ⊥) → placeOf (hitOf w) + 2 + w .len ≤ length (now m)) ⌝ }
     ensures { λ r. ⌜ extentOf r ≡ textIn (foundIn (now (m .entry)) (marked known) code (hitOf w)) ⌝ }
@@ -213,11 +213,7 @@ fn text_in(m: &[u8], known: [u64; 4], code: u8, w: Walked) -> Extent
     }
     let start = place_of(w) + 2;
     let end = start + wide(w.len);
-    let d = &m[start..end];
-    if kinds::fault(code, d) != 0 {
-        return Extent { start: 0, len: 0 };
-    }
-    clip(start, kinds::text_len(d))
+    clip(start, kinds::text_len(&m[start..end]))
 }
 
 // Where the text of a code stands, without its trailing zeros.

@@ -1,19 +1,17 @@
 -- `lookup::text_in` meets its contract. Assumes nothing.
 use borrow.Author.Needs.{needs}
-use mathlib.Core.Path.{_≡_, refl, sym, ap, _∙_}
+use mathlib.Core.Path.{_≡_, sym, ap, _∙_}
 use mathlib.Core.Option.{some}
-use Prim.Native.Nat.{ℕ, _+_}
+use Prim.Native.Nat.{ℕ}
 use native.Mathlib.Nat.{add-sub-cancel-left}
 use native.Mathlib.Omega.{arith}
-use lib.ListN.{take, drop}
 use borrow.Author.Tests.{not-true, not-false}
 use Rattle.options.specs.CodeSet.{marked}
 use Rattle.options.specs.Kinds.{kindOf, text}
-use Rattle.kinds.specs.Numbers.{kindAt, faultOf}
+use Rattle.kinds.specs.Numbers.{kindAt}
 use Rattle.kinds.proofs.Numbering.{row}
 use Rattle.wire.specs.Walk.{hitOf}
-use Rattle.lookup.specs.Shown.{placeOf}
-use Rattle.lookup.proofs.Laws.{text-absent, text-else, text-unmarked, text-broken, text-kept, clip-is}
+use Rattle.lookup.proofs.Laws.{text-absent, text-else, text-unmarked, text-found, clip-is}
 use Rattle.lookup.proofs.text_in.Statement.{statement}
 use Rattle.lookup.proofs.text_in.Tie as tie
 
@@ -60,27 +58,14 @@ wide-requires c κs = search needs
 add-end : tie.Need-add-end
 add-end c = search needs
 
-sub-d : tie.Need-sub-d
-sub-d c = search needs
+sub-text-len : tie.Need-sub-text-len
+sub-text-len c = search needs
 
-part-d-start : tie.Need-part-d-start
-part-d-start c = search needs
+part-text-len-start : tie.Need-part-text-len-start
+part-text-len-start c = search needs
 
-part-d-end : tie.Need-part-d-end
-part-d-end c = omega (arith, c .wide .ensures .0, c .before .place-of .ensures .0, c .before .before .before .before .before .before .before .before .before .pre .1 (c .before .before .before .before .before .before .if1 .left))
-
-fault-requires : tie.Need-fault-requires
-fault-requires c κs = search needs
-
-returns-4 : tie.Need-returns-4
-returns-4 c =
-    let a = c .before .before .before .before .before .before .before .before .before .before .before .before .args in
-    let m = a .m .now in
-    let h = hitOf (a .w) in
-    let k = c .before .before .before .before .before .before .before .before .kind in
-    let e : c .before .fault .result ≡ faultOf (a .code) (take (h .len) (drop (placeOf h + 2) m)) = (rw (add-sub-cancel-left, c .before .before .before .wide .ensures .0, c .before .before .before .before .place-of .ensures .0) at (c .before .fault .ensures)) in
-    text-broken m (marked (a .known)) (a .code) h (c .before .before .before .before .before .before .before .before .before .if1 .left) (kindAt (k .result)) (row (kindOf (a .code)) (k .result) (k .ensures) (λ z. omega (arith, c .before .before .before .before .before .before .before .if2 .left)))
-    (sym (c .before .before .before .before .before .before .contains .ensures) ∙ not-false (c .before .before .before .before .before .before .contains .result) (c .before .before .before .before .before .if3 .left)) (c .before .fault .result) e (c .if4 .taken)
+part-text-len-end : tie.Need-part-text-len-end
+part-text-len-end c = omega (arith, c .wide .ensures .0, c .before .place-of .ensures .0, c .before .before .before .before .before .before .before .before .before .pre .1 (c .before .before .before .before .before .before .if1 .left))
 
 text-len-requires : tie.Need-text-len-requires
 text-len-requires c κs = search needs
@@ -88,16 +73,15 @@ text-len-requires c κs = search needs
 clip-requires : tie.Need-clip-requires
 clip-requires c κs = search needs
 
-returns-5 : tie.Need-returns-5
-returns-5 c =
-    let a = c .before .before .before .before .before .before .before .before .before .before .before .before .before .before .args in
+returns-4 : tie.Need-returns-4
+returns-4 c =
+    let a = c .before .before .before .before .before .before .before .before .before .before .before .before .args in
     let m = a .m .now in
     let h = hitOf (a .w) in
-    let k = c .before .before .before .before .before .before .before .before .before .before .kind in
-    let e : c .before .before .before .fault .result ≡ faultOf (a .code) (take (h .len) (drop (placeOf h + 2) m)) = (rw (add-sub-cancel-left, c .before .before .before .before .before .wide .ensures .0, c .before .before .before .before .before .before .place-of .ensures .0) at (c .before .before .before .fault .ensures)) in
-    rw (c .clip .ensures, clip-is _ _, c .before .text-len .ensures, add-sub-cancel-left, c .before .before .before .before .before .wide .ensures .0, c .before .before .before .before .before .before .place-of .ensures .0)
-    (text-kept m (marked (a .known)) (a .code) h (c .before .before .before .before .before .before .before .before .before .before .before .if1 .left) (is-text (a .code) (k .result) (c .before .before .before .before .before .before .before .before .before .if2 .left) (row (kindOf (a .code)) (k .result) (k .ensures) (λ z. omega (arith, c .before .before .before .before .before .before .before .before .before .if2 .left))))
-    (sym (c .before .before .before .before .before .before .before .before .contains .ensures) ∙ not-false (c .before .before .before .before .before .before .before .before .contains .result) (c .before .before .before .before .before .before .before .if3 .left)) (sym e ∙ c .before .before .if4 .left))
+    let k = c .before .before .before .before .before .before .before .before .kind in
+    rw (c .clip .ensures, clip-is _ _, c .before .text-len .ensures, add-sub-cancel-left, c .before .before .before .wide .ensures .0, c .before .before .before .before .place-of .ensures .0)
+    (text-found m (marked (a .known)) (a .code) h (c .before .before .before .before .before .before .before .before .before .if1 .left) (is-text (a .code) (k .result) (c .before .before .before .before .before .before .before .if2 .left) (row (kindOf (a .code)) (k .result) (k .ensures) (λ z. omega (arith, c .before .before .before .before .before .before .before .if2 .left))))
+    (sym (c .before .before .before .before .before .before .contains .ensures) ∙ not-false (c .before .before .before .before .before .before .contains .result) (c .before .before .before .before .before .if3 .left)))
 
 pub text-in-spec : {M : Type 1} → statement M
 text-in-spec =
@@ -112,11 +96,9 @@ text-in-spec =
     add-start
     wide-requires
     add-end
-    sub-d
-    part-d-start
-    part-d-end
-    fault-requires
-    returns-4
+    sub-text-len
+    part-text-len-start
+    part-text-len-end
     text-len-requires
     clip-requires
-    returns-5)
+    returns-4)

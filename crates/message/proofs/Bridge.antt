@@ -18,7 +18,7 @@ use Rattle.wire.specs.Walk.{noState, stopped, sizeOf, overWrong, overAfter, not
 use Rattle.wire.specs.Walk.{State}
 use Rattle.wire.specs.Walk.{Walked}
 use Rattle.wire.specs.Walk.{Closed, Fault}
-use Rattle.message.specs.Scan.{keptAll, usedBy, scanIn, scanOf, joined, walkIf, walked}
+use Rattle.message.specs.Scan.{keptAll, usedBy, scanIn, scanOf, joined, walkIf, walkedBy, walked}
 
 -- ---- codes are bytes
 
@@ -272,3 +272,7 @@ module _ (want : ℕ) (m : List ℕ) where
 pub walked-none : (want : ℕ) (m : List ℕ) (a : Walked) → a .state .over ≡ 0 → a ≡ walked want m a
 unfolding walkIf
 walked-none want m a e = rw e
+
+-- where it is 1, file alone is
+pub walked-file : (want : ℕ) (m : List ℕ) (a : Walked) → a .state .over ≡ 1 → walkedBy true false want m a ≡ walked want m a
+walked-file want m a e = rw e

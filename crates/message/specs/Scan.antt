@@ -44,9 +44,12 @@ unfoldable pub walkIf : Bool → Field → ℕ → List ℕ → Walked → Walke
 walkIf false fd want f w = w
 walkIf true fd want f w = walkAfter (w .end) fd want f w
 
--- the further fields, by the value of option 52
+-- the further fields, where they are active, and by the value of option 52
+abbrev pub walkedBy : Bool → Bool → ℕ → List ℕ → Walked → Walked
+walkedBy f s want m a = walkIf s sname want (bytes sname m) (walkIf f file want (bytes file m) a)
+
 abbrev pub walked : ℕ → List ℕ → Walked → Walked
-walked want m a = walkIf (snameIn (a .state .over)) sname want (bytes sname m) (walkIf (fileIn (a .state .over)) file want (bytes file m) a)
+walked want m a = walkedBy (fileIn (a .state .over)) (snameIn (a .state .over)) want m a
 
 -- r is what is wanted, and its options take at most the field more than those of w
 pub record Grown (w : flat.Walked) (f : List ℕ) (wanted : Walked) (r : flat.Walked) : Type 0 where

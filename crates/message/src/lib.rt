@@ -5,7 +5,7 @@ ghost use lib.ListN.{length, take, drop};
 ghost use Rattle.options.specs.Message.{cookie};
 ghost use Rattle.options.specs.Reading.{same, fileIn, snameIn};
 ghost use Rattle.wire.specs.Walk.{fieldOf, walkedOf};
-ghost use Rattle.message.specs.Scan.{scanOf, joined, walkIf, walked, Grown, Scanned};
+ghost use Rattle.message.specs.Scan.{scanOf, joined, walkIf, walkedBy, Grown, Scanned};
 use wire::Field;
 use wire::Walked;
 
@@ -92,17 +92,16 @@ fn walk_if(on: bool, field: Field, f: &[u8], want: u8, w: Walked) -> Walked
     join(w.used, wire::walk(field, f, want, w))
 }
 
-// Walks file and sname, where option 52 makes them active. Apart from `scan`, so that the common case is short.
-fn further(m: &[u8], want: u8, a: Walked) -> Walked
+// Walks file and sname, where they are active.
+fn further(m: &[u8], want: u8, a: Walked, file: bool, sname: bool) -> Walked
     requires { ⌜ (240 ≤ length (now m)) × (a .used ≤ 4096) × (a .number ≡ 0 → a .place ≡ 0) ⌝ }
-    ensures { λ r. ⌜ Scanned (walked want (now (m .entry)) (walkedOf a)) r ⌝ }
+    ensures { λ r. ⌜ Scanned (walkedBy file sname want (now (m .entry)) (walkedOf a)) r ⌝ }
 {
-    let v = a.over;
-    let b = walk_if(file_on(v), Field::File, &m[108..236], want, a);
-    walk_if(sname_on(v), Field::Sname, &m[44..108], want, b)
+    let b = walk_if(file, Field::File, &m[108..236], want, a);
+    walk_if(sname, Field::Sname, &m[44..108], want, b)
 }
 
-// Walks the message once: what is kept of its options, the code wanted among them, or the refusal.
+// Walks the message once (two calls of `further`, so that it stays out of the common case): what is kept of its options, the code wanted among them, or the refusal.
 pub fn scan(m: &[u8], want: u8) -> Walked
     ensures { λ r. ⌜ Scanned (scanOf want (now (m .entry))) r ⌝ }
 {
@@ -121,5 +120,8 @@ pub fn scan(m: &[u8], want: u8) -> Walked
     if v == 0 {
         return a;
     }
-    further(m, want, a)
+    if v == 1 {
+        return further(m, want, a, true, false);
+    }
+    further(m, want, a, file_on(v), sname_on(v))
 }

@@ -4,9 +4,6 @@ use native.Mathlib.Omega.{arith}
 use Rattle.message.proofs.further.Statement.{statement}
 use Rattle.message.proofs.further.Tie as tie
 
-file-on-requires : tie.Need-file-on-requires
-file-on-requires c κs = search needs
-
 sub-walk-if : tie.Need-sub-walk-if
 sub-walk-if c = search needs
 
@@ -17,10 +14,7 @@ part-walk-if-end : tie.Need-part-walk-if-end
 part-walk-if-end c = search needs
 
 walk-if-requires : tie.Need-walk-if-requires
-walk-if-requires c κs = (omega (arith, c .before .before .before .pre .1), search needs, c .before .before .before .pre .2)
-
-sname-on-requires : tie.Need-sname-on-requires
-sname-on-requires c κs = search needs
+walk-if-requires c κs = (omega (arith, c .before .before .pre .1), search needs, c .before .before .pre .2)
 
 sub-walk-if-2 : tie.Need-sub-walk-if-2
 sub-walk-if-2 c = search needs
@@ -32,21 +26,19 @@ part-walk-if-end-2 : tie.Need-part-walk-if-end-2
 part-walk-if-end-2 c = search needs
 
 walk-if-requires-2 : tie.Need-walk-if-requires-2
-walk-if-requires-2 c κs = (omega (arith, c .before .before .walk-if .ensures .within, c .before .before .before .before .before .before .pre .1), search needs, c .before .before .walk-if .ensures .no-place)
+walk-if-requires-2 c κs = (omega (arith, c .before .walk-if .ensures .within, c .before .before .before .before .pre .1), search needs, c .before .walk-if .ensures .no-place)
 
 returns : tie.Need-returns
-returns c = record { is = rw (c .walk-if2 .ensures .is, c .before .before .sname-on .ensures, c .before .before .before .walk-if .ensures .is, c .before .before .before .before .before .file-on .ensures); no-place = c .walk-if2 .ensures .no-place }
+returns c = record { is = rw (c .walk-if2 .ensures .is, c .before .before .walk-if .ensures .is); no-place = c .walk-if2 .ensures .no-place }
 
 pub further-spec : {M : Type 1} → statement M
 further-spec =
     tie.close
     (tie.spec
-    file-on-requires
     sub-walk-if
     part-walk-if-start
     part-walk-if-end
     walk-if-requires
-    sname-on-requires
     sub-walk-if-2
     part-walk-if-start-2
     part-walk-if-end-2

@@ -2,16 +2,16 @@
 use borrow.Author.Needs.{needs}
 use mathlib.Core.Path.{_≡_, sym, ap, _∙_}
 use native.Mathlib.Omega.{arith}
-use Prim.Native.Nat.{ℕ, suc, _-_}
+use Prim.Native.Nat.{ℕ, suc, _-_, _≤_}
 use lib.ListN.{length, take, drop}
 use borrow.Author.Tests.{not-true, not-false}
 use Rattle.options.specs.Message.{options}
 use Rattle.options.specs.KindClaims.{AllBytes}
 use Rattle.wire.specs.Walk.{noState, walkedOf, walkField}
 use Rattle.wire.specs.declared.Walked as flat
-use Rattle.message.specs.Scan.{walked}
+use Rattle.message.specs.Scan.{scanOf, walked}
 use Rattle.message.proofs.Laws.{take-rest}
-use Rattle.message.proofs.Bridge.{all-bytes, walked-none, scan-short, scan-long, scan-cookie, scan-fields}
+use Rattle.message.proofs.Bridge.{all-bytes, walked-none, walked-file, scan-short, scan-long, scan-cookie, scan-fields}
 use Rattle.message.proofs.scan.Statement.{statement}
 use Rattle.message.proofs.scan.Tie as tie
 
@@ -56,28 +56,43 @@ stop-requires-4 c κs = search needs
 walk-requires : tie.Need-walk-requires
 walk-requires c κs = search needs
 
+-- once the options were walked, the further fields by the value of option 52 are the whole
+whole : (c : tie.After-walk) → walked (c .before .before .before .before .before .before .before .before .args .want) (c .before .before .before .before .before .before .before .before .args .m .now) (walkedOf (c .walk .result)) ≡ scanOf (c .before .before .before .before .before .before .before .before .args .want) (c .before .before .before .before .before .before .before .before .args .m .now)
+whole c =
+    let a = c .before .before .before .before .before .before .before .before .args in
+    let m = a .m .now in
+    let k : AllBytes m = all-bytes m (λ i. c .before .before .before .before .before .before .before .shared-slice-known .given i .fits) in
+    let e : walkedOf (c .walk .result) ≡ walkField options (a .want) noState (drop 240 m) = rw (← take-rest m 240) (c .walk .ensures .is ∙ ap (λ (x : flat.Walked). walkField options (a .want) (walkedOf x .state) (take (length m - 240) (drop 240 m))) (c .before .stop4 .ensures)) in
+    ap (walked (a .want) m) e ∙ scan-fields (a .want) m k (c .before .before .before .before .before .before .if1 .left) (c .before .before .before .before .before .if2 .left) (sym (c .before .before .before .before .cookie-ok .ensures) ∙ not-false (c .before .before .before .before .cookie-ok .result) (c .before .before .before .if3 .left))
+
+small : (c : tie.After-walk) → c .walk .result .used ≤ 4096
+small c = omega (arith, c .walk .ensures .within, c .before .before .before .before .before .if2 .left)
+
 returns-4 : tie.Need-returns-4
 returns-4 c =
-    let s = c .before .before .before .before .before .before .before .before .before in
-    let a = s .args in
-    let m = a .m .now in
-    let k : AllBytes m = all-bytes m (λ i. c .before .before .before .before .before .before .before .before .shared-slice-known .given i .fits) in
-    let w = scan-fields (a .want) m k (c .before .before .before .before .before .before .before .if1 .left) (c .before .before .before .before .before .before .if2 .left) (sym (c .before .before .before .before .before .cookie-ok .ensures) ∙ not-false (c .before .before .before .before .before .cookie-ok .result) (c .before .before .before .before .if3 .left)) in
-    let e : walkedOf (c .before .walk .result) ≡ walkField options (a .want) noState (drop 240 m) = rw (← take-rest m 240) (c .before .walk .ensures .is ∙ ap (λ (x : flat.Walked). walkField options (a .want) (walkedOf x .state) (take (length m - 240) (drop 240 m))) (c .before .before .stop4 .ensures)) in
-    record { is = walked-none (a .want) m (walkedOf (c .before .walk .result)) (c .if4 .taken) ∙ ap (walked (a .want) m) e ∙ w; no-place = c .before .walk .ensures .no-place }
+    let a = c .before .before .before .before .before .before .before .before .before .args in
+    record { is = walked-none (a .want) (a .m .now) (walkedOf (c .before .walk .result)) (c .if4 .taken) ∙ whole (c .before); no-place = c .before .walk .ensures .no-place }
 
 further-requires : tie.Need-further-requires
-further-requires c κs = (c .before .before .before .before .before .before .before .if1 .left, omega (arith, c .before .walk .ensures .within, c .before .before .before .before .before .before .if2 .left), c .before .walk .ensures .no-place)
+further-requires c κs = (c .before .before .before .before .before .before .before .before .if1 .left, small (c .before .before), c .before .before .walk .ensures .no-place)
 
 returns-5 : tie.Need-returns-5
 returns-5 c =
-    let s = c .before .before .before .before .before .before .before .before .before .before in
-    let a = s .args in
-    let m = a .m .now in
-    let k : AllBytes m = all-bytes m (λ i. c .before .before .before .before .before .before .before .before .before .shared-slice-known .given i .fits) in
-    let w = scan-fields (a .want) m k (c .before .before .before .before .before .before .before .before .if1 .left) (c .before .before .before .before .before .before .before .if2 .left) (sym (c .before .before .before .before .before .before .cookie-ok .ensures) ∙ not-false (c .before .before .before .before .before .before .cookie-ok .result) (c .before .before .before .before .before .if3 .left)) in
-    let e : walkedOf (c .before .before .walk .result) ≡ walkField options (a .want) noState (drop 240 m) = rw (← take-rest m 240) (c .before .before .walk .ensures .is ∙ ap (λ (x : flat.Walked). walkField options (a .want) (walkedOf x .state) (take (length m - 240) (drop 240 m))) (c .before .before .before .stop4 .ensures)) in
-    record { is = c .further .ensures .is ∙ ap (walked (a .want) m) e ∙ w; no-place = c .further .ensures .no-place }
+    let a = c .before .before .before .before .before .before .before .before .before .before .before .args in
+    record { is = c .further .ensures .is ∙ walked-file (a .want) (a .m .now) (walkedOf (c .before .before .before .walk .result)) (c .before .if5 .taken) ∙ whole (c .before .before .before); no-place = c .further .ensures .no-place }
+
+file-on-requires : tie.Need-file-on-requires
+file-on-requires c κs = search needs
+
+sname-on-requires : tie.Need-sname-on-requires
+sname-on-requires c κs = search needs
+
+further-requires-2 : tie.Need-further-requires-2
+further-requires-2 c κs = (c .before .before .before .before .before .before .before .before .before .before .if1 .left, small (c .before .before .before .before), c .before .before .before .before .walk .ensures .no-place)
+
+returns-6 : tie.Need-returns-6
+returns-6 c =
+    record { is = rw (c .further2 .ensures .is, c .before .sname-on .ensures, c .before .before .file-on .ensures) (whole (c .before .before .before .before .before)); no-place = c .further2 .ensures .no-place }
 
 pub scan-spec : {M : Type 1} → statement M
 scan-spec =
@@ -97,4 +112,8 @@ scan-spec =
     walk-requires
     returns-4
     further-requires
-    returns-5)
+    returns-5
+    file-on-requires
+    sname-on-requires
+    further-requires-2
+    returns-6)

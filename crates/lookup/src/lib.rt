@@ -3,7 +3,8 @@ ghost use mathlib.Core.Path.{_≡_};
 ghost use mathlib.Core.List.{List};
 ghost use Prim.Native.Nat.{_≤_, _<_, _+_};
 ghost use lib.ListN.{length};
-ghost use Rattle.wire.specs.Walk.{hitOf};
+ghost use Rattle.wire.specs.Walk.{walkedOf, hitOf};
+ghost use Rattle.message.specs.Scan.{scanOf};
 ghost use Rattle.options.specs.Kinds.{kinds, Table};
 ghost use Rattle.options.specs.CodeSet.{marked};
 ghost use Rattle.options.specs.Answers.{lookup, bytesOf, dataOf, textIn, textOf};
@@ -125,7 +126,21 @@ fn found(m: &[u8], known: [u64; 4], code: u8, w: Walked) -> Answer
     value(k, d, start)
 }
 
-// Looks up a code, given the set of known codes. One walk over the message.
+// The answer once the message was walked.
+fn answer_in(m: &[u8], known: [u64; 4], code: u8, w: Walked) -> Answer
+    requires { ⌜ (code ≡ 0 → ⊥) × (code ≡ 255 → ⊥) × (walkedOf w ≡ scanOf code (now m)) ⌝ }
+    ensures { λ r. ⌜ answerOf r ≡ lookup kinds (marked known) (now (m .entry)) code ⌝ }
+{
+    if w.number != 0 {
+        return Answer::Refused {
+            number: w.number,
+            place: w.place,
+        };
+    }
+    found(m, known, code, w)
+}
+
+// Looks up a code, given the set of known codes. One walk over the message; options apart, since most messages have no more.
 pub fn lookup(m: &[u8], known: [u64; 4], code: u8) -> Answer
     ensures { λ r. ⌜ answerOf r ≡ lookup kinds (marked known) (now (m .entry)) code ⌝ }
 {
@@ -141,14 +156,12 @@ pub fn lookup(m: &[u8], known: [u64; 4], code: u8) -> Answer
             place: 0,
         };
     }
-    let w = message::scan(m, code);
-    if w.number != 0 {
-        return Answer::Refused {
-            number: w.number,
-            place: w.place,
-        };
+    let a = message::first(m, code);
+    let v = a.over;
+    if v == 0 {
+        return answer_in(m, known, code, a);
     }
-    found(m, known, code, w)
+    answer_in(m, known, code, message::further(m, code, a))
 }
 
 // A part that begins at start: 0 and 0 when it is empty.

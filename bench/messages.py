@@ -1,9 +1,12 @@
 #!/usr/bin/env python3
-"""Writes the measured messages to messages/*.bin."""
+"""
+messages.py                 writes the measured messages and sheets to messages/*.bin and messages/*.sheet
+messages.py growth FOLDER   writes those of 10 to 100 options that `run growth` measures
+"""
 
+import sys
 from pathlib import Path
 
-OUT = Path(__file__).resolve().parent / "messages"
 END = b"\xff"
 HEADER = bytes([2, 1, 6, 0, 0x39, 3, 0xF3, 0x26]) + bytes(8) + bytes([192, 0, 2, 10, 192, 0, 2, 1]) + bytes(4) + bytes([0, 0, 0x5E, 0, 0x53, 1]) + bytes(10)
 COOKIE = bytes([99, 130, 83, 99])
@@ -11,6 +14,10 @@ COOKIE = bytes([99, 130, 83, 99])
 
 def option(code, data):
     return bytes([code, len(data)]) + data
+
+
+def record(tag, data):
+    return bytes([tag]) + len(data).to_bytes(2, "big") + data
 
 
 def address(last):
@@ -89,7 +96,65 @@ def overloaded():
     )
 
 
-OUT.mkdir(exist_ok=True)
-for name, m in (("offer", offer()), ("many", many()), ("overloaded", overloaded())):
-    (OUT / f"{name}.bin").write_bytes(m)
-    print(name, len(m))
+def settings(name, root, vendor):
+    """A sheet of fifteen records, as a box would offer them."""
+    return (
+        record(1, bytes([255, 255, 255, 0]))
+        + record(3, address(1))
+        + record(6, address(2) + address(3))
+        + record(12, b"fridge-07")
+        + record(15, b"clinic.example")
+        + record(28, address(255))
+        + record(42, address(4) + address(5))
+        + record(51, seconds(3600))
+        + record(54, address(1))
+        + record(58, seconds(1800))
+        + record(59, seconds(3150))
+        + record(2, bytes([0, 0, 0x0E, 0x10]))
+        + record(66, name)
+        + record(67, root)
+        + record(43, vendor)
+    )
+
+
+def sheet15():
+    """Written into 576 bytes without overloading."""
+    return settings(b"boot.clinic.example", b"images/meter.bin", bytes(range(1, 31)))
+
+
+def sheetover():
+    """Written into 300 bytes: options and file are too small for it, sname is needed as well."""
+    return settings(b"boot.clinic.example", b"images/" + b"fridge-meter/" * 3 + b"v2.bin", bytes(range(1, 41)))
+
+
+def growth(n):
+    """A message and a sheet of n options of 12 bytes each, codes without a row; in the message 51 stands behind them."""
+    codes = range(100, 100 + n)
+    data = b"0123456789"
+    return (
+        message(b"".join(option(c, data) for c in codes) + option(51, seconds(3600)) + END),
+        b"".join(record(c, data) for c in codes),
+    )
+
+
+def write(folder, files):
+    folder.mkdir(parents=True, exist_ok=True)
+    for name, content in files:
+        (folder / name).write_bytes(content)
+
+
+if len(sys.argv) == 3 and sys.argv[1] == "growth":
+    for n in range(10, 101, 10):
+        m, s = growth(n)
+        write(Path(sys.argv[2]), [(f"{n}.bin", m), (f"{n}.sheet", s)])
+else:
+    write(
+        Path(__file__).resolve().parent / "messages",
+        [
+            ("offer.bin", offer()),
+            ("many.bin", many()),
+            ("overloaded.bin", overloaded()),
+            ("sheet15.sheet", sheet15()),
+            ("sheetover.sheet", sheetover()),
+        ],
+    )

@@ -1,4 +1,4 @@
-/* Document 01's reader in plain C: the measure for the library's reading calls. */
+/* Document 01's reader and writer in plain C: the measure for the library's calls. */
 #ifndef PLAIN_H
 #define PLAIN_H
 
@@ -46,9 +46,16 @@ typedef struct {
     size_t size, place;
 } plain_filled;
 
+/* refusal 0: written, by that plan. */
+typedef struct {
+    uint32_t refusal, plan;
+    size_t place;
+} plain_wrote;
+
 plain_answer plain_lookup(const uint8_t *m, size_t n, const uint64_t known[4], uint8_t code);
 plain_extent plain_data(const uint8_t *m, size_t n, uint8_t code);
 plain_codes plain_present(const uint8_t *m, size_t n);
 plain_filled plain_records(const uint8_t *m, size_t n, uint8_t *out, size_t room);
+plain_wrote plain_write(const uint8_t *sheet, size_t n, uint8_t *m, size_t room, uint8_t permission);
 
 #endif

@@ -5,82 +5,13 @@ import struct
 import sys
 from pathlib import Path
 
-OUT = Path(__file__).resolve().parent.parent.parent / "crates" / "vectors"
+HERE = Path(__file__).resolve().parent
+sys.path.append(str(HERE.parent))
+from reader import Refused, read, row_of
 
-# The kinds as document 01 lists them: name, codes, which lengths are right, which data is right.
-KINDS = [
-    ("address", "1 16 28 32 50 54", lambda c, n: n == 4, None),
-    ("addresses", "3-11 41 42 44 45 48 49 65 69-76 68", lambda c, n: n % 4 == 0 and (n > 0 or c == 68), None),
-    ("pairs", "21 33", lambda c, n: n % 8 == 0 and n > 0,
-     lambda c, d: c == 21 or all(any(d[i:i + 4]) for i in range(0, len(d), 8))),
-    ("flag", "19 20 27 29 30 31 34 36 39", lambda c, n: n == 1, lambda c, d: d[0] < 2),
-    ("octet", "23 37", lambda c, n: n == 1, lambda c, d: d[0] > 0),
-    ("octet", "46", lambda c, n: n == 1, lambda c, d: d[0] in (1, 2, 4, 8)),
-    ("octet", "52", lambda c, n: n == 1, lambda c, d: 0 < d[0] < 4),
-    ("octet", "53", lambda c, n: n == 1, lambda c, d: 0 < d[0] < 9),
-    ("number16", "13", lambda c, n: n == 2, None),
-    ("number16", "22 57", lambda c, n: n == 2, lambda c, d: d >= b"\x02\x40"),
-    ("number16", "26", lambda c, n: n == 2, lambda c, d: d >= b"\x00\x44"),
-    ("numbers16", "25", lambda c, n: n % 2 == 0 and n > 0,
-     lambda c, d: all(d[i:i + 2] >= max(b"\x00\x44", d[i - 2:i]) for i in range(0, len(d), 2))),
-    ("unsigned32", "24 35 38 51 58 59", lambda c, n: n == 4, None),
-    ("signed32", "2", lambda c, n: n == 4, None),
-    ("text", "12 14 15 17 18 40 56 64 66 67", lambda c, n: n > 0, None),
-    ("opaque", "43 47 55 60", lambda c, n: n > 0, None),
-    ("opaque", "61", lambda c, n: n > 1, None),
-]
+OUT = HERE.parent.parent / "crates" / "vectors"
+
 FORMAT = {"address": ">I", "flag": "B", "octet": "B", "number16": ">H", "unsigned32": ">I", "signed32": ">i"}
-
-
-def row_of(code):
-    for row in KINDS:
-        for word in row[1].split():
-            first, _, last = word.partition("-")
-            if int(first) <= code <= int(last or first):
-                return row
-    return None
-
-
-class Refused(Exception):
-    pass
-
-
-def walk(m, first, end, met):
-    """Add the options of the field from first to end to met (code: place), in order."""
-    i = first
-    while i < end:
-        code = m[i]
-        if code == 255:
-            return
-        if code == 0:
-            i += 1
-            continue
-        if i + 1 == end or i + 2 + m[i + 1] > end:
-            raise Refused(4, i)
-        if code == 52 and (first != 240 or m[i + 1] != 1 or m[i + 2] not in (1, 2, 3)):
-            raise Refused(6, i)
-        if code in met:
-            raise Refused(7, i)
-        met[code] = i
-        i += 2 + m[i + 1]
-    raise Refused(5, end)
-
-
-def read(m):
-    if len(m) < 240:
-        raise Refused(1, len(m))
-    if len(m) > 1472:
-        raise Refused(2, len(m))
-    if list(m[236:240]) != [99, 130, 83, 99]:
-        raise Refused(3, 236)
-    met = {}
-    walk(m, 240, len(m), met)
-    overload = m[met[52] + 2] if 52 in met else None
-    if overload in (1, 3):
-        walk(m, 108, 236, met)
-    if overload in (2, 3):
-        walk(m, 44, 108, met)
-    return met
 
 
 def look_up(m, code, at):

@@ -56,12 +56,16 @@ module _ (s : List ℕ) (at : ℕ) where
     pub none-cut : length s - at - 3 < sizeAt s at → sheetRecords 0 (drop at s) ≡ []
     none-cut c = seen ∙ rw (lt-ltb (length (drop (at + 3) s)) (sizeAt s at) (omega (arith, length-drop (at + 3) s)))
 
+    pub none-long : 255 < sizeAt s at → sheetRecords 0 (drop at s) ≡ []
+    none-long l = seen ∙ (rw (lt-ltb 255 (sizeAt s at) l) (go (ltb (length (drop (at + 3) s)) (sizeAt s at))))
+      where
+        go : (b : Bool) → cond {A = List Rec} b [] [] ≡ []
+        go true = refl
+        go false = refl
+
     module _ (w : sizeAt s at ≤ length s - at - 3) where
       within : ltb (length (drop (at + 3) s)) (sizeAt s at) ≡ false
       within = le-ltb (length (drop (at + 3) s)) (sizeAt s at) (omega (arith, length-drop (at + 3) s))
-
-      pub none-long : 255 < sizeAt s at → sheetRecords 0 (drop at s) ≡ []
-      none-long l = seen ∙ simp (within, lt-ltb 255 (sizeAt s at) l)
 
       pub one : sizeAt s at ≤ 255 → sheetRecords 0 (drop at s) ≡ recordAt s at (sizeAt s at) ∷ sheetRecords 0 (drop (at + (sizeAt s at + 3)) s)
       one l =
@@ -118,7 +122,7 @@ module _ (s : List ℕ) (at n k : ℕ) (e : k ≡ nextSize n (sheetRecords 0 (dr
         absurd (z (e ∙ sym (no-room n (sizeAt s at) (recordAt s at (sizeAt s at)) _ (sheetRecords 0 (drop at s)) (one s at h w l) (size-is s at h w) (ltb-false (sizeAt s at + 2) n t))))
 
   short : at + 3 ≤ length s → sizeAt s at ≤ length s - at - 3 → (b : Bool) → ltb 255 (sizeAt s at) ≡ b → Next s at n k
-  short h w true t = absurd (none (none-long s at h w (ltb-true 255 (sizeAt s at) t)))
+  short h w true t = absurd (none (none-long s at h (ltb-true 255 (sizeAt s at) t)))
   short h w false t = fit h w (ltb-false 255 (sizeAt s at) t) (ltb (sizeAt s at + 2) n) refl
 
   uncut : at + 3 ≤ length s → (b : Bool) → ltb (length s - at - 3) (sizeAt s at) ≡ b → Next s at n k

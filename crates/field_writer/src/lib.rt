@@ -60,14 +60,15 @@ fn next_size(s: &[u8], at: usize, room: usize) -> usize
     requires { ⌜ at < length (now s) ⌝ }
     ensures { λ r. ⌜ r ≡ nextSize room (sheetRecords 0 (drop at (now (s .entry)))) ⌝ }
 {
-    if s.len() - at < 3 {
+    let left = s.len() - at;
+    if left < 3 {
         return 0;
     }
-    let n = 256 * wide(s[at + 1]) + wide(s[at + 2]);
-    if s.len() - at - 3 < n {
+    if s[at + 1] != 0 {
         return 0;
     }
-    if 255 < n {
+    let n = wide(s[at + 2]);
+    if left - 3 < n {
         return 0;
     }
     if room <= n + 2 {

@@ -1,35 +1,96 @@
--- The table of kinds: one test, computed over all codes, gives what stands at each. Assumes nothing.
+-- The kinds by code, as a `match` gives them: a test, computed over an arm's codes, and for the last arm over all codes, gives the answer. Assumes nothing.
 use mathlib.Core.Path.{_≡_}
-use mathlib.Core.Bool.{Bool, true, false}
-use mathlib.Core.List.{List}
+use mathlib.Core.Bool.{Bool, true, _&&_, _||_}
+use mathlib.Core.List.{List, [], _∷_}
+use mathlib.Core.Logic.{inl, inr}
 use Prim.Native.Nat.{ℕ, zero, suc, _<_}
 use native.Mathlib.Omega.{arith}
 use borrow.Author.Count.{below-more}
 use lib.Dec.{T, eqb, eqb→eq}
-use lib.ListN.{getD}
-use Rattle.options.specs.Kinds.{both, kindOf}
+use mir.Facts.{and-yes, or-yes}
+use mir.Syntax.{Body, skip, seq, assign, block, loop, cond, switch, exit, return, call, Arms, arm, default, noDefault}
+use mir.Val.{hasKey}
+use types.Run.{OneOf, hit}
+use Rattle.options.specs.Kinds.{rows, kindIn, kindOf}
 use Rattle.kinds.specs.Numbers.{kindNumber}
 
-both-left : (a b : Bool) → T (both a b) → T a
-both-left true b t = tt
-both-left false b t = t
+-- the arms of the `match` that a body begins with; none for any other body
+abbrev pub armsOf : Body → Arms
+armsOf (switch x arms) = arms
+armsOf (seq a b) = armsOf a
+armsOf skip = noDefault
+armsOf (assign p v) = noDefault
+armsOf (block a) = noDefault
+armsOf (loop a) = noDefault
+armsOf (cond x a b) = noDefault
+armsOf (exit n) = noDefault
+armsOf return = noDefault
+armsOf (call f xs p) = noDefault
 
-both-right : (a b : Bool) → T (both a b) → T b
-both-right true b t = t
-both-right false b t = absurd t
+-- the codes of arm i, counted from 0
+abbrev pub codes : Arms → ℕ → List ℕ
+codes (arm ks b arms) zero = ks
+codes (arm ks b arms) (suc i) = codes arms i
+codes (default b) i = []
+codes noDefault i = []
 
--- the entry of each code below n is its kind, 0 past the end of the table
-abbrev right : List ℕ → ℕ → Bool
-right xs c = eqb (getD xs c 0) (kindNumber (kindOf c))
+-- n is the number of c's kind
+abbrev is : ℕ → ℕ → Bool
+is n c = eqb n (kindNumber (kindIn rows c))
 
-abbrev pub allRight : List ℕ → ℕ → Bool
-allRight xs zero = true
-allRight xs (suc n) = both (right xs n) (allRight xs n)
+is-kind : (n c : ℕ) → T (is n c) → n ≡ kindNumber (kindOf c)
+unfolding kindOf
+is-kind n c t = eqb→eq n (kindNumber (kindIn rows c)) t
 
-pub entry : (xs : List ℕ) (n : ℕ) → T (allRight xs n) → (c : ℕ) → c < n → getD xs c 0 ≡ kindNumber (kindOf c)
-entry xs zero t c h = absurd (omega arith)
-entry xs (suc n) t c h =
-    below-more (λ k. getD xs k 0 ≡ kindNumber (kindOf k)) n
-    (entry xs n (both-right (right xs n) (allRight xs n) t))
-    (eqb→eq (getD xs n 0) (kindNumber (kindOf n)) (both-left (right xs n) (allRight xs n) t))
-    c (omega arith)
+-- ---- An arm with codes
+
+abbrev pub allAre : ℕ → List ℕ → Bool
+allAre n [] = true
+allAre n (k ∷ ks) = is n k && allAre n ks
+
+pub listed : (ks : List ℕ) (n c : ℕ) → T (allAre n ks) → OneOf ks c → n ≡ kindNumber (kindOf c)
+listed [] n c t o = absurd o
+listed (k ∷ []) n c t e = rw e (is-kind n k (and-yes (is n k) true t .0))
+listed (k ∷ l ∷ ks) n c t (inl e) = rw e (is-kind n k (and-yes (is n k) (allAre n (l ∷ ks)) t .0))
+listed (k ∷ l ∷ ks) n c t (inr o) = listed (l ∷ ks) n c (and-yes (is n k) (allAre n (l ∷ ks)) t .1) o
+
+-- ---- The last arm
+
+-- c is a code of an arm, or has no row
+abbrev settled : Arms → ℕ → Bool
+settled (arm ks b arms) c = hasKey ks c || settled arms c
+settled (default b) c = is 0 c
+settled noDefault c = is 0 c
+
+abbrev pub allSettled : Arms → ℕ → Bool
+allSettled arms zero = true
+allSettled arms (suc n) = settled arms n && allSettled arms n
+
+all-below : (arms : Arms) (n : ℕ) → T (allSettled arms n) → (c : ℕ) → c < n → T (settled arms c)
+all-below arms zero t c h = absurd (omega arith)
+all-below arms (suc n) t c h =
+    let p : T (settled arms n) × T (allSettled arms n) = and-yes (settled arms n) (allSettled arms n) t in
+    below-more (λ k. T (settled arms k)) n (all-below arms n (p .1)) (p .0) c (omega arith)
+
+-- what the last arm knows: beside N, that c is no code of an arm
+abbrev pub Unlisted : Type 0 → Arms → ℕ → Type 0
+Unlisted N (arm ks b arms) c = Unlisted (N × (OneOf ks c → ⊥)) arms c
+Unlisted N (default b) c = N
+Unlisted N noDefault c = N
+
+beside : (N : Type 0) (arms : Arms) (c : ℕ) → Unlisted N arms c → N
+beside N (arm ks b arms) c u = beside (N × (OneOf ks c → ⊥)) arms c u .0
+beside N (default b) c u = u
+beside N noDefault c u = u
+
+without : (N : Type 0) (arms : Arms) (c : ℕ) → T (settled arms c) → Unlisted N arms c → 0 ≡ kindNumber (kindOf c)
+without N (arm ks b arms) c t u =
+    elim (or-yes (hasKey ks c) (settled arms c) t) [
+      | inl h ↦ absurd (beside (N × (OneOf ks c → ⊥)) arms c u .1 (hit ks c h))
+      | inr s ↦ without (N × (OneOf ks c → ⊥)) arms c s u
+    ]
+without N (default b) c t u = is-kind 0 c t
+without N noDefault c t u = is-kind 0 c t
+
+pub unlisted : (arms : Arms) (c : ℕ) → T (allSettled arms 256) → c < 256 → Unlisted (Unit {0}) arms c → 0 ≡ kindNumber (kindOf c)
+unlisted arms c t h u = without (Unit {0}) arms c (all-below arms 256 t c h) u

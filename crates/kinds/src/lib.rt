@@ -33,92 +33,31 @@ pub const TEXT: u8 = 10;
 
 pub const OPAQUE: u8 = 11;
 
-// The kind of each code up to 76; later codes have no row.
-const KINDS: [u8; 77] = [
-    NO_ROW, // 0
-    ADDRESS, // 1
-    SIGNED32, // 2
-    ADDRESSES, // 3
-    ADDRESSES, // 4
-    ADDRESSES, // 5
-    ADDRESSES, // 6
-    ADDRESSES, // 7
-    ADDRESSES, // 8
-    ADDRESSES, // 9
-    ADDRESSES, // 10
-    ADDRESSES, // 11
-    TEXT, // 12
-    NUMBER16, // 13
-    TEXT, // 14
-    TEXT, // 15
-    ADDRESS, // 16
-    TEXT, // 17
-    TEXT, // 18
-    FLAG, // 19
-    FLAG, // 20
-    PAIRS, // 21
-    NUMBER16, // 22
-    OCTET, // 23
-    UNSIGNED32, // 24
-    NUMBERS16, // 25
-    NUMBER16, // 26
-    FLAG, // 27
-    ADDRESS, // 28
-    FLAG, // 29
-    FLAG, // 30
-    FLAG, // 31
-    ADDRESS, // 32
-    PAIRS, // 33
-    FLAG, // 34
-    UNSIGNED32, // 35
-    FLAG, // 36
-    OCTET, // 37
-    UNSIGNED32, // 38
-    FLAG, // 39
-    TEXT, // 40
-    ADDRESSES, // 41
-    ADDRESSES, // 42
-    OPAQUE, // 43
-    ADDRESSES, // 44
-    ADDRESSES, // 45
-    OCTET, // 46
-    OPAQUE, // 47
-    ADDRESSES, // 48
-    ADDRESSES, // 49
-    ADDRESS, // 50
-    UNSIGNED32, // 51
-    OCTET, // 52
-    OCTET, // 53
-    ADDRESS, // 54
-    OPAQUE, // 55
-    TEXT, // 56
-    NUMBER16, // 57
-    UNSIGNED32, // 58
-    UNSIGNED32, // 59
-    OPAQUE, // 60
-    OPAQUE, // 61
-    NO_ROW, // 62
-    NO_ROW, // 63
-    TEXT, // 64
-    ADDRESSES, // 65
-    TEXT, // 66
-    TEXT, // 67
-    ADDRESSES, // 68
-    ADDRESSES, // 69
-    ADDRESSES, // 70
-    ADDRESSES, // 71
-    ADDRESSES, // 72
-    ADDRESSES, // 73
-    ADDRESSES, // 74
-    ADDRESSES, // 75
-    ADDRESSES, // 76
-];
-
-// The kind of the code c, as a number (document 01, The kinds).
+// The kind of the code c, as a number, row by row (document 01, The kinds, by code). A row with neighbours has two arms: neighbours in one arm become a range,
+// and ranges are tested one by one, while single codes are looked up.
 pub fn kind(c: u8) -> u8
     ensures { λ r. ⌜ r ≡ kindNumber (kindOf c) ⌝ }
 {
-    byte(&KINDS, c as usize)
+    match c {
+        1 | 16 | 28 | 32 | 50 | 54 => ADDRESS,
+        3 | 5 | 7 | 9 | 11 | 41 | 44 | 48 | 65 | 68 | 70 | 72 | 74 | 76 => ADDRESSES,
+        4 | 6 | 8 | 10 | 42 | 45 | 49 | 69 | 71 | 73 | 75 => ADDRESSES,
+        21 | 33 => PAIRS,
+        19 | 27 | 29 | 31 | 34 | 36 | 39 => FLAG,
+        20 | 30 => FLAG,
+        23 | 37 | 46 | 52 => OCTET,
+        53 => OCTET,
+        13 | 22 | 57 | 26 => NUMBER16,
+        25 => NUMBERS16,
+        24 | 35 | 38 | 51 | 58 => UNSIGNED32,
+        59 => UNSIGNED32,
+        2 => SIGNED32,
+        12 | 14 | 17 | 40 | 56 | 64 | 66 => TEXT,
+        15 | 18 | 67 => TEXT,
+        43 | 47 | 55 | 60 => OPAQUE,
+        61 => OPAQUE,
+        _ => NO_ROW,
+    }
 }
 
 // The byte at i, or 0 past the end: what a number in data is made of (document 01, The kinds).

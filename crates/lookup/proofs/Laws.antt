@@ -3,15 +3,17 @@ use mathlib.Core.Path.{_≡_, refl, sym, ap, ap₂, _∙_, subst}
 use mathlib.Core.Bool.{Bool, true, false, cond}
 use mathlib.Core.List.{List, [], _∷_}
 use mathlib.Core.Option.{Option, none, some}
-use Prim.Native.Nat.{ℕ, zero, suc, _+_, _≤_, _<_}
+use Prim.Native.Nat.{ℕ, zero, suc, _+_, _%_, _≤_, _<_}
 use native.Mathlib.Omega.{arith}
 use lib.Dec.{eqb}
 use lib.ListN.{length, take, drop, length-take, length-drop}
-use borrow.Author.Tests.{eq-eqb, ne-eqb, eqb-true, eqb-false}
+use borrow.Author.Tests.{eq-eqb, ne-eqb, eqb-true, eqb-false, le-leb}
 use Rattle.options.specs.Message.{Field, options, file, sname, start, turn, bytes, Opt, opt, dataStart, place}
 use Rattle.options.specs.Reading.{Reading, accepted, refused, readMessage, find}
-use Rattle.options.specs.Kinds.{Kind, address, addresses, pairs, flag, octet, number16, numbers16, unsigned32, signed32, text, opaque, kindOf, meaning, broken, kinds}
+use Rattle.options.specs.Kinds.{Kind, address, addresses, pairs, flag, octet, number16, numbers16, unsigned32, signed32, text, opaque, kindOf, lengthFits, valueFits, trimmed, meaning, judged, broken, kinds}
 use Rattle.options.specs.Answers as asked
+use Rattle.kinds.specs.Numbers.{numberOf, kindNumber, faultOf}
+use Rattle.kinds.proofs.Numbering.{fault-broken, fault-kept}
 use Rattle.options.specs.Refusals.{whole, row-2}
 use Rattle.options.specs.ReadingClaims.{In, Precedes}
 use mathlib.Core.Logic.{inl, inr}
@@ -74,6 +76,76 @@ module _ (m : List ℕ) (set : ℕ → Bool) (c : ℕ) (h : Hit) where
       pub found-kept : kinds .value c body ≡ meaning k body → meantAt (meaning k body) (placeOf h + 2) ≡ foundIn m set c h
       unfolding foundIn asked.shown
       found-kept e = rw (ne-eqb (h .field) 0 z, s, r) (shown-meant k body (placeOf h) (optionAt m c h) refl ∙ sym (ap (asked.valueAt (optionAt m c h)) (rw r at e)))
+
+-- ---- the text for a hit, by the tests that the code makes
+
+-- no other kind has a text
+meant-else : (k : Kind) (d : List ℕ) (s : ℕ) → (numberOf k ≡ 10 → ⊥) → asked.noExtent ≡ asked.textIn (meantAt (meaning k d) s)
+unfolding meaning
+meant-else address d s z = refl
+meant-else addresses d s z = refl
+meant-else pairs d s z = refl
+meant-else flag d s z = refl
+meant-else octet d s z = refl
+meant-else number16 d s z = refl
+meant-else numbers16 d s z = refl
+meant-else unsigned32 d s z = refl
+meant-else signed32 d s z = refl
+meant-else text d s z = absurd (z refl)
+meant-else opaque d s z = refl
+
+some-text : (c x : ℕ) (d : List ℕ) → kindOf c ≡ some text → faultOf c (x ∷ d) ≡ 0
+unfolding faultOf judged lengthFits valueFits meaning
+some-text c x d r = rw (r, le-leb 1 (suc (length d)) (omega arith), eq-eqb (suc (length d) % 1) 0 (omega arith))
+
+-- a text that breaks its kind is empty
+empty-text : (c : ℕ) (d : List ℕ) → kindOf c ≡ some text → (faultOf c d ≡ 0 → ⊥) → trimmed d ≡ 0
+unfolding trimmed
+empty-text c [] r z = refl
+empty-text c (x ∷ d) r z = absurd (z (some-text c x d r))
+
+module _ (m : List ℕ) (set : ℕ → Bool) (c : ℕ) (h : Hit) where
+  pub text-absent : h .field ≡ 0 → asked.noExtent ≡ asked.textIn (foundIn m set c h)
+  text-absent e = ap asked.textIn (found-absent m set c h e)
+
+  module _ (z : h .field ≡ 0 → ⊥) where
+    abbrev data′ : List ℕ
+    data′ = take (h .len) (drop (placeOf h + 2) m)
+
+    pub text-unmarked : set c ≡ false → asked.noExtent ≡ asked.textIn (foundIn m set c h)
+    text-unmarked e = ap asked.textIn (found-unmarked m set c h z e)
+
+    pub text-broken : (k : Kind) → kindOf c ≡ some k → set c ≡ true → (n : ℕ) → n ≡ faultOf c data′ → (n ≡ 0 → ⊥) → asked.noExtent ≡ asked.textIn (foundIn m set c h)
+    text-broken k r e n f y = ap asked.textIn (found-broken m set c h z k r e n (fault-broken c data′ n f y))
+
+    kept : (k : Kind) → kindOf c ≡ some k → set c ≡ true → faultOf c data′ ≡ 0 → meantAt (meaning k data′) (placeOf h + 2) ≡ foundIn m set c h
+    kept k r e f = found-kept m set c h z k r e (fault-kept c k data′ r f)
+
+    text-kept : kindOf c ≡ some text → set c ≡ true → faultOf c data′ ≡ 0 → asked.extent (placeOf h + 2) (trimmed data′) ≡ asked.textIn (foundIn m set c h)
+    unfolding meaning
+    text-kept r e f = ap asked.textIn (kept text r e f)
+
+    pub text-found : kindOf c ≡ some text → set c ≡ true → asked.extent (placeOf h + 2) (trimmed data′) ≡ asked.textIn (foundIn m set c h)
+    text-found r e = go (eqb (faultOf c data′) 0) refl
+      where
+        go : (b : Bool) → eqb (faultOf c data′) 0 ≡ b → asked.extent (placeOf h + 2) (trimmed data′) ≡ asked.textIn (foundIn m set c h)
+        go true q = text-kept r e (eqb-true (faultOf c data′) 0 q)
+        go false q = ap (asked.extent (placeOf h + 2)) (empty-text c data′ r (eqb-false (faultOf c data′) 0 q)) ∙ text-broken text r e (faultOf c data′) refl (eqb-false (faultOf c data′) 0 q)
+
+    pub text-else : (kindNumber (kindOf c) ≡ 10 → ⊥) → asked.noExtent ≡ asked.textIn (foundIn m set c h)
+    text-else y = row-of (kindOf c) refl
+      where
+        row-of : (x : Option Kind) → kindOf c ≡ x → asked.noExtent ≡ asked.textIn (foundIn m set c h)
+        row-of none r = ap asked.textIn (found-no-row m set c h z r)
+        row-of (some k) r = mark (set c) refl
+          where
+            fault : (b : Bool) → eqb (faultOf c data′) 0 ≡ b → set c ≡ true → asked.noExtent ≡ asked.textIn (foundIn m set c h)
+            fault true q e = meant-else k data′ (placeOf h + 2) (λ t. y (ap kindNumber r ∙ t)) ∙ ap asked.textIn (kept k r e (eqb-true (faultOf c data′) 0 q))
+            fault false q e = text-broken k r e (faultOf c data′) refl (eqb-false (faultOf c data′) 0 q)
+
+            mark : (b : Bool) → set c ≡ b → asked.noExtent ≡ asked.textIn (foundIn m set c h)
+            mark true e = fault (eqb (faultOf c data′) 0) refl e
+            mark false e = text-unmarked e
 
 -- a part of no bytes is empty
 pub clip-is : (s n : ℕ) → clipped s n ≡ asked.extent s n

@@ -3,10 +3,11 @@ ghost use mathlib.Core.Path.{_≡_};
 ghost use mathlib.Core.List.{List};
 ghost use Prim.Native.Nat.{_≤_, _<_, _+_};
 ghost use lib.ListN.{length};
-ghost use Rattle.wire.specs.Walk.{hitOf};
+ghost use Rattle.wire.specs.Walk.{walkedOf, hitOf};
+ghost use Rattle.message.specs.Scan.{scanOf};
 ghost use Rattle.options.specs.Kinds.{kinds, Table};
 ghost use Rattle.options.specs.CodeSet.{marked};
-ghost use Rattle.options.specs.Answers.{lookup, bytesOf, dataOf, textOf};
+ghost use Rattle.options.specs.Answers.{lookup, bytesOf, dataOf, textIn, textOf};
 ghost use Rattle.lookup.specs.Shown.{answerOf, valueOf, foundIn, extentOf, extentIn, clipped, placeOf};
 use wire::Walked;
 
@@ -125,7 +126,21 @@ fn found(m: &[u8], known: [u64; 4], code: u8, w: Walked) -> Answer
     value(k, d, start)
 }
 
-// Looks up a code, given the set of known codes. One walk over the message.
+// The answer once the message was walked.
+fn answer_in(m: &[u8], known: [u64; 4], code: u8, w: Walked) -> Answer
+    requires { ⌜ (code ≡ 0 → ⊥) × (code ≡ 255 → ⊥) × (walkedOf w ≡ scanOf code (now m)) ⌝ }
+    ensures { λ r. ⌜ answerOf r ≡ lookup kinds (marked known) (now (m .entry)) code ⌝ }
+{
+    if w.number != 0 {
+        return Answer::Refused {
+            number: w.number,
+            place: w.place,
+        };
+    }
+    found(m, known, code, w)
+}
+
+// Looks up a code, given the set of known codes. One walk over the message; options apart, since most messages have no more.
 pub fn lookup(m: &[u8], known: [u64; 4], code: u8) -> Answer
     ensures { λ r. ⌜ answerOf r ≡ lookup kinds (marked known) (now (m .entry)) code ⌝ }
 {
@@ -141,14 +156,12 @@ pub fn lookup(m: &[u8], known: [u64; 4], code: u8) -> Answer
             place: 0,
         };
     }
-    let w = message::scan(m, code);
-    if w.number != 0 {
-        return Answer::Refused {
-            number: w.number,
-            place: w.place,
-        };
+    let a = message::first(m, code);
+    let v = a.over;
+    if v == 0 {
+        return answer_in(m, known, code, a);
     }
-    found(m, known, code, w)
+    answer_in(m, known, code, message::further(m, code, a))
 }
 
 // A part that begins at start: 0 and 0 when it is empty.
@@ -197,15 +210,40 @@ pub fn data(m: &[u8], code: u8) -> &[u8]
     message::part(m, e.start, e.len)
 }
 
+// The text part of an option that was met, or not. A text of length 0, which is refused, has an empty part as well.
+fn text_in(m: &[u8], known: [u64; 4], code: u8, w: Walked) -> Extent
+    requires { ⌜ (w .offset ≤ 65536) × ((w .field ≡ 0 → ⊥) → placeOf (hitOf w) + 2 + w .len ≤ length (now m)) ⌝ }
+    ensures { λ r. ⌜ extentOf r ≡ textIn (foundIn (now (m .entry)) (marked known) code (hitOf w)) ⌝ }
+{
+    if w.field == 0 {
+        return Extent { start: 0, len: 0 };
+    }
+    if kinds::kind(code) != kinds::TEXT {
+        return Extent { start: 0, len: 0 };
+    }
+    if !codeset::contains(known, code) {
+        return Extent { start: 0, len: 0 };
+    }
+    let start = place_of(w) + 2;
+    let end = start + wide(w.len);
+    clip(start, kinds::text_len(&m[start..end]))
+}
+
 // Where the text of a code stands, without its trailing zeros.
 pub fn text_extent(m: &[u8], known: [u64; 4], code: u8) -> Extent
     ensures { λ r. ⌜ extentOf r ≡ textOf (marked known) (now (m .entry)) code ⌝ }
 {
-    let a = lookup(m, known, code);
-    match a {
-        Answer::Text { start, len } => clip(start, len),
-        _ => Extent { start: 0, len: 0 },
+    if code == 0 {
+        return Extent { start: 0, len: 0 };
     }
+    if code == 255 {
+        return Extent { start: 0, len: 0 };
+    }
+    let w = message::scan(m, code);
+    if w.number != 0 {
+        return Extent { start: 0, len: 0 };
+    }
+    text_in(m, known, code, w)
 }
 
 // The text of a code, as a part of the message; empty unless the lookup answers text.

@@ -14,11 +14,12 @@ use Rattle.options.specs.CodeSet.{marked, withMark, noCodes}
 use Rattle.codeset.specs.Codes.{Marks}
 use Rattle.codeset.proofs.Codes.{marks-add, marks-none}
 use Rattle.theorems.proofs.CodesPresent.{all-field}
-use Rattle.wire.specs.Walk.{noState, stopped, sizeOf, overWrong, overAfter, noted, walkOf, walkField}
+use Rattle.wire.specs.Walk.{noState, stopped, sizeOf, overWrong, overAfter, noted, walkOf, walkField, walkedOf}
 use Rattle.wire.specs.Walk.{State}
 use Rattle.wire.specs.Walk.{Walked}
 use Rattle.wire.specs.Walk.{Closed, Fault}
-use Rattle.message.specs.Scan.{keptAll, usedBy, scanIn, scanOf, joined, walkIf}
+use Rattle.wire.specs.declared.Walked as flat
+use Rattle.message.specs.Scan.{keptAll, usedBy, scanIn, scanOf, joined, walkIf, firstOf, walked, furtherOf, First, Further}
 
 -- ---- codes are bytes
 
@@ -232,10 +233,6 @@ sname-over : (v : ℕ) → snameIn v ≡ true → eqb v 0 ≡ false
 sname-over zero e = absurd (let z : _≡_ {A = ℕ} 0 1 = cc in omega arith)
 sname-over (suc v) e = ne-eqb (suc v) 0 (omega arith)
 
--- what the code gives, once the length and the cookie are right
-abbrev pub walked : ℕ → List ℕ → Walked → Walked
-walked want m a = walkIf (snameIn (a .state .over)) sname want (bytes sname m) (walkIf (fileIn (a .state .over)) file want (bytes file m) a)
-
 module _ (want : ℕ) (m : List ℕ) (b : AllBytes m) where
   abbrev v : ℕ
   v = overloadOf (firstField m)
@@ -254,25 +251,38 @@ module _ (want : ℕ) (m : List ℕ) (b : AllBytes m) where
       (scans-more sname want v m b (snameIn v) (extend (fileIn v) file m (firstField m)) (walkIf (fileIn v) file want (bytes file m) a) (sname-over v)
       (scans-more file want v m b (fileIn v) (firstField m) a (file-over v) (first-is .0)))
 
-module _ (want : ℕ) (m : List ℕ) where
-  pub scan-short : length m < 240 → stopped 1 (length m) ≡ scanOf want m
-  unfolding scanOf readMessage
-  scan-short h = rw (lt-ltb (length m) 240 h)
+-- length, cookie and options, and then the further fields, are the whole
+module _ (want : ℕ) (m : List ℕ) (b : AllBytes m) where
+  fields : walked want m (walkField options want noState (drop 240 m)) ≡ scanIn want (allFields m)
+  fields = scans-is want (overloadOf (firstField m)) (allFields m) (walked want m (walkField options want noState (drop 240 m))) (all-scanned want m b)
 
-  pub scan-long : 240 ≤ length m → 1472 < length m → stopped 2 (length m) ≡ scanOf want m
-  unfolding scanOf readMessage
-  scan-long h k = rw (le-ltb (length m) 240 h, lt-ltb 1472 (length m) k)
-
-  pub scan-cookie : 240 ≤ length m → length m ≤ 1472 → same (take 4 (drop 236 m)) cookie ≡ false → stopped 3 236 ≡ scanOf want m
-  unfolding scanOf readMessage
-  scan-cookie h k e = rw (le-ltb (length m) 240 h, le-ltb 1472 (length m) k, e)
-
-  pub scan-fields : AllBytes m → 240 ≤ length m → length m ≤ 1472 → same (take 4 (drop 236 m)) cookie ≡ true
-      → walked want m (walkField options want noState (drop 240 m)) ≡ scanOf want m
-  unfolding scanOf readMessage
-  scan-fields b h k e = rw (le-ltb (length m) 240 h, le-ltb 1472 (length m) k, e) (scans-is want (overloadOf (firstField m)) (allFields m) (walked want m (walkField options want noState (drop 240 m))) (all-scanned want m b))
+  whole : walked want m (firstOf want m) ≡ scanOf want m
+  unfolding firstOf scanOf readMessage walkIf
+  whole = go (ltb (length m) 240) (ltb 1472 (length m)) (same (take 4 (drop 236 m)) cookie)
+    where
+      go : (x y z : Bool)
+          → walked want m (cond x (stopped 1 (length m)) (cond y (stopped 2 (length m)) (cond z (walkField options want noState (drop 240 m)) (stopped 3 236))))
+          ≡ scanIn want (cond x (refused 1 (length m)) (cond y (refused 2 (length m)) (cond z (allFields m) (refused 3 236))))
+      go true y z = refl
+      go false true z = refl
+      go false false true = fields
+      go false false false = refl
 
 -- where option 52 is not there, no further field is walked
-pub walked-none : (want : ℕ) (m : List ℕ) (a : Walked) → a .state .over ≡ 0 → a ≡ walked want m a
+walked-none : (want : ℕ) (m : List ℕ) (a : Walked) → a .state .over ≡ 0 → a ≡ walked want m a
 unfolding walkIf
 walked-none want m a e = rw e
+
+pub first-alone : {want : ℕ} {m : List ℕ} {a : flat.Walked} → AllBytes m → First want m a → a .over ≡ 0 → walkedOf a ≡ scanOf want m
+first-alone {want} {m} {a} b f e = walked-none want m (walkedOf a) e ∙ ap (walked want m) (f .is) ∙ whole want m b
+
+too-short : (want : ℕ) (m : List ℕ) → ltb (length m) 240 ≡ true → firstOf want m ≡ scanOf want m
+unfolding firstOf scanOf readMessage
+too-short want m q = rw q
+
+pub first-further : {want : ℕ} {m : List ℕ} {a r : flat.Walked} → AllBytes m → First want m a → Further want m a r → walkedOf r ≡ scanOf want m
+first-further {want} {m} {a} {r} b f g = g .is ∙ go (ltb (length m) 240) refl
+  where
+    go : (x : Bool) → ltb (length m) 240 ≡ x → furtherOf want m (walkedOf a) ≡ scanOf want m
+    go true q = rw q (f .is ∙ too-short want m q)
+    go false q = rw (q, le-ltb 8192 (a .used) (f .small)) (ap (walked want m) (f .is) ∙ whole want m b)

@@ -16,9 +16,9 @@ use Rattle.wire.specs.Walk.{noState, noted, walkField}
 use Rattle.wire.specs.Walk.{Walked}
 use Rattle.wire.specs.Walk.{State}
 use Rattle.wire.specs.Walk.{Closed, Fault}
-use Rattle.message.specs.Scan.{keptAll, scanIn, scanOf}
+use Rattle.message.specs.Scan.{keptAll, scanIn, scanOf, walked}
 use Rattle.message.specs.Fields.{optionsIn, onlyIf, fieldOptions, activeOptions}
-use Rattle.message.proofs.Bridge.{firstField, Kept, Scans, walked, all-scanned}
+use Rattle.message.proofs.Bridge.{firstField, Kept, Scans, all-scanned}
 
 clash {ℓ} : {X : Type ℓ} → _≡_ {A = ℕ} 0 1 → X
 clash e = absurd (omega arith)

@@ -1,11 +1,12 @@
 -- What a walk for a code keeps of the reading of a message. Assumes nothing.
 use mathlib.Core.Path.{_≡_}
-use mathlib.Core.Bool.{Bool, true, false}
+use mathlib.Core.Bool.{Bool, true, false, cond}
 use mathlib.Core.List.{List, [], _∷_}
 use Prim.Native.Nat.{ℕ, _+_, _≤_}
-use lib.ListN.{length}
-use Rattle.options.specs.Message.{Field, turn, Rec, Opt}
-use Rattle.options.specs.Reading.{Reading, accepted, refused, items, readMessage}
+use lib.ListN.{length, take, drop}
+use lib.Dec.{ltb}
+use Rattle.options.specs.Message.{Field, options, file, sname, turn, bytes, cookie, shortest, longest, Rec, Opt}
+use Rattle.options.specs.Reading.{Reading, accepted, refused, items, readMessage, same, fileIn, snameIn}
 use Rattle.wire.specs.Walk.{State, End, Closed, Fault, Walked, walkedOf, noState, stopped, sizeOf, noted, walkField}
 use Rattle.wire.specs.declared.Walked as flat
 
@@ -44,11 +45,35 @@ unfoldable pub walkIf : Bool → Field → ℕ → List ℕ → Walked → Walke
 walkIf false fd want f w = w
 walkIf true fd want f w = walkAfter (w .end) fd want f w
 
+-- length and cookie, and the options
+unfoldable pub firstOf : ℕ → List ℕ → Walked
+firstOf want m =
+    cond (ltb (length m) shortest) (stopped 1 (length m))
+    (cond (ltb longest (length m)) (stopped 2 (length m))
+    (cond (same (take 4 (drop 236 m)) cookie) (walkField options want noState (drop 240 m)) (stopped 3 236)))
+
+-- the further fields, by the value of option 52
+abbrev pub walked : ℕ → List ℕ → Walked → Walked
+walked want m a = walkIf (snameIn (a .state .over)) sname want (bytes sname m) (walkIf (fileIn (a .state .over)) file want (bytes file m) a)
+
+-- "Lengths 240 to 1,472 are handled": what cannot come of such a message is given back
+abbrev pub furtherOf : ℕ → List ℕ → Walked → Walked
+furtherOf want m a = cond (ltb (length m) shortest) a (cond (ltb 8192 (a .used)) a (walked want m a))
+
+pub record First (want : ℕ) (m : List ℕ) (r : flat.Walked) : Type 0 where
+  pub is : walkedOf r ≡ firstOf want m
+  pub small : r .used ≤ 8192
+  pub no-place : r .number ≡ 0 → r .place ≡ 0
+
+pub record Further (want : ℕ) (m : List ℕ) (a r : flat.Walked) : Type 0 where
+  pub is : walkedOf r ≡ furtherOf want m (walkedOf a)
+  pub no-place : (a .number ≡ 0 → a .place ≡ 0) → r .number ≡ 0 → r .place ≡ 0
+
 -- r is what is wanted, and its options take at most the field more than those of w
 pub record Grown (w : flat.Walked) (f : List ℕ) (wanted : Walked) (r : flat.Walked) : Type 0 where
   pub is : walkedOf r ≡ wanted
   pub within : r .used ≤ w .used + length f
-  pub no-place : r .number ≡ 0 → r .place ≡ 0
+  pub no-place : (w .number ≡ 0 → w .place ≡ 0) → r .number ≡ 0 → r .place ≡ 0
 
 -- r is w, and without a refusal there is no place
 pub record Scanned (w : Walked) (r : flat.Walked) : Type 0 where

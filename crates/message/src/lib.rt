@@ -5,7 +5,7 @@ ghost use lib.ListN.{length, take, drop};
 ghost use Rattle.options.specs.Message.{cookie};
 ghost use Rattle.options.specs.Reading.{same, fileIn, snameIn};
 ghost use Rattle.wire.specs.Walk.{fieldOf, walkedOf};
-ghost use Rattle.message.specs.Scan.{scanOf, joined, walkIf, Grown, Scanned};
+ghost use Rattle.message.specs.Scan.{scanOf, joined, walkIf, First, Further, Grown, Scanned};
 use wire::Field;
 use wire::Walked;
 
@@ -80,7 +80,7 @@ fn join(used: usize, r: Walked) -> Walked
 
 // Walks a further field, where it is active and nothing was refused before.
 fn walk_if(on: bool, field: Field, f: &[u8], want: u8, w: Walked) -> Walked
-    requires { ⌜ (w .used ≤ 8192) × (length (now f) ≤ 8192) × (w .number ≡ 0 → w .place ≡ 0) ⌝ }
+    requires { ⌜ (w .used ≤ 16384) × (length (now f) ≤ 8192) ⌝ }
     ensures { λ r. ⌜ Grown w (now (f .entry)) (walkIf on (fieldOf field) want (now (f .entry)) (walkedOf w)) r ⌝ }
 {
     if !on {
@@ -92,9 +92,9 @@ fn walk_if(on: bool, field: Field, f: &[u8], want: u8, w: Walked) -> Walked
     join(w.used, wire::walk(field, f, want, w))
 }
 
-// Walks the message once: what is kept of its options, the code wanted among them, or the refusal.
-pub fn scan(m: &[u8], want: u8) -> Walked
-    ensures { λ r. ⌜ Scanned (scanOf want (now (m .entry))) r ⌝ }
+// The tests of length and cookie, and the walk of options: all there is to a message without option 52.
+pub fn first(m: &[u8], want: u8) -> Walked
+    ensures { λ r. ⌜ First want (now (m .entry)) r ⌝ }
 {
     let n = m.len();
     if n < 240 {
@@ -106,11 +106,32 @@ pub fn scan(m: &[u8], want: u8) -> Walked
     if !cookie_ok(m) {
         return wire::stop(3, 236);
     }
-    let a = wire::walk(Field::Options, &m[240..], want, wire::stop(0, 0));
+    wire::walk(Field::Options, &m[240..], want, wire::stop(0, 0))
+}
+
+// Walks file and sname on top of that, where option 52 makes them active. What can be no walk of a message is given back.
+pub fn further(m: &[u8], want: u8, a: Walked) -> Walked
+    ensures { λ r. ⌜ Further want (now (m .entry)) a r ⌝ }
+{
+    if m.len() < 240 {
+        return a;
+    }
+    if 8192 < a.used {
+        return a;
+    }
+    let v = a.over;
+    let b = walk_if(file_on(v), Field::File, &m[108..236], want, a);
+    walk_if(sname_on(v), Field::Sname, &m[44..108], want, b)
+}
+
+// Walks the message once: what is kept of its options, the code wanted among them, or the refusal.
+pub fn scan(m: &[u8], want: u8) -> Walked
+    ensures { λ r. ⌜ Scanned (scanOf want (now (m .entry))) r ⌝ }
+{
+    let a = first(m, want);
     let v = a.over;
     if v == 0 {
         return a;
     }
-    let b = walk_if(file_on(v), Field::File, &m[108..236], want, a);
-    walk_if(sname_on(v), Field::Sname, &m[44..108], want, b)
+    further(m, want, a)
 }

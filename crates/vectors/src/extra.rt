@@ -103,7 +103,7 @@ fn refused() {
 
 // The lines after the cases.
 pub fn lines() {
-    print::word(b"extra\n");
+    console::word(b"extra\n");
     let m = message();
     lookups(&m);
     data(&m);

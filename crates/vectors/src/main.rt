@@ -45,7 +45,7 @@ fn lookups(m: &[u8]) {
 fn one(m: &[u8]) {
     let mut text = [0u8; 16384];
     let n = listing::list(m, &mut text);
-    print::word(&text[..n]);
+    console::word(&text[..n]);
     let p = present::present(m);
     if p.number == 0 {
         print::present(p);
@@ -53,7 +53,7 @@ fn one(m: &[u8]) {
         let mut sheet = [0u8; 2048];
         print::records(m, &mut sheet);
     }
-    print::word(b"-\n");
+    console::word(b"-\n");
 }
 
 // Reads a message as long as buf and prints its lines.
@@ -68,7 +68,7 @@ fn next() -> bool {
     if io::read_full(0, &mut head) < 2 {
         return false;
     }
-    let size = (print::wide(head[0]) * 256 + print::wide(head[1])) as usize;
+    let size = (console::wide(head[0]) * 256 + console::wide(head[1])) as usize;
     if 1600 < size {
         return false;
     }

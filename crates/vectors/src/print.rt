@@ -1,40 +1,14 @@
 // The lines of the output, each from the call that it shows.
-ghost use Prim.Native.Nat.{_<_};
+use console::number;
+use console::one;
+use console::sum;
+use console::two;
+use console::wide;
+use console::word;
 use lookup::Answer;
 use lookup::Extent;
 use present::Codes;
 use records::Given;
-
-// A byte as a number.
-pub fn wide(x: u8) -> u64
-    ensures { λ r. ⌜ r < 256 ⌝ }
-{
-    x as u64
-}
-
-// Bytes as they are.
-pub fn word(text: &[u8]) {
-    io::write_all(1, text);
-}
-
-// A blank and a number.
-pub fn number(n: u64) {
-    word(b" ");
-    io::print_decimal(1, n);
-}
-
-// A name and one number after it.
-fn one(name: &[u8], n: u64) {
-    word(name);
-    number(n);
-}
-
-// A name and two numbers after it.
-fn two(name: &[u8], a: usize, b: usize) {
-    word(name);
-    number(a as u64);
-    number(b as u64);
-}
 
 // How far x is from 0.
 fn distance(x: i32) -> u64 {
@@ -94,17 +68,6 @@ pub fn present(p: Codes) {
     one(b" count", p.count as u64);
     one(b" lowest", p.lowest as u64);
     word(b"\n");
-}
-
-// A number for a run of bytes: each byte adds itself to 31 times what was there.
-fn sum(s: &[u8]) -> u64 {
-    let mut t: u64 = 0;
-    let mut i: usize = 0;
-    while i < s.len() {
-        t = (t * 31 + wide(s[i])) % 1000003;
-        i = i + 1;
-    }
-    t
 }
 
 // The line of the records that are written to a lent buffer.

@@ -6,18 +6,18 @@ use Prim.Native.Nat.{ℕ, _+_, _-_, _<_, _≤_}
 use native.Mathlib.Omega.{arith}
 use lib.ListN.{length, replicate, length-replicate}
 use lib.Dec.{eqb, leb}
-use borrow.Author.Tests.{lt-ltb, le-ltb, lt-leb, leb-true, eq-eqb, ne-eqb}
+use borrow.Author.Tests.{lt-ltb, le-ltb, lt-leb, leb-true, eq-eqb, ne-eqb, eqb-true, eqb-false}
 use Rattle.options.specs.Message.{Rec}
 use Rattle.options.specs.Reading.{fileIn, snameIn}
 use Rattle.options.specs.Kinds.{kinds}
 use Rattle.options.specs.Answers.{recordBytes}
-use Rattle.options.specs.Writing.{isNil, pastSname, planFits, written, plans, tryPlans, sheet, afterSheet, writer}
+use Rattle.options.specs.Writing.{wrote, declined, isNil, pastSname, planFits, written, plans, tryPlans, sheet, afterSheet, writer}
 use Rattle.field_writer.specs.Fill.{sheetRecords, taken, past52}
 use Rattle.field_writer.proofs.Accepted.{accepted-records, accepted-whole}
 use Rattle.field_writer.proofs.Plans.{plan-fits}
 use Rattle.sheet.specs.Judge.{judgeOf}
 use Rattle.sheet.proofs.Verdicts.{Accepted, accepted, tries, refused}
-use Rattle.writer.specs.Writer.{leastRoom, placeIf, overloading, Whole, Gives}
+use Rattle.writer.specs.Writer.{leastRoom, placeAfter, placeIf, overloading, firstFit, Whole, Gives}
 use Rattle.writer.specs.declared.Wrote.{Wrote}
 use Rattle.writer.specs.declared.Wrote.the-variants.{Plan, Refused}
 use Rattle.writer.proofs.Parts.{some-room, room-52}
@@ -27,14 +27,7 @@ use Rattle.writer.proofs.Parts.{some-room, room-52}
 clash {ℓ} : {X : Type ℓ} → _≡_ {A = ℕ} 0 1 → X
 clash e = absurd (omega arith)
 
--- a plan that overloads has option 52 and END
-pub four : (p : ℕ) → 1 ≤ p → leastRoom p ≡ 4
-four p h = rw (ne-eqb p 0 (λ e. omega arith))
-
-pub past-three : (p n : ℕ) → 1 ≤ p → past52 p n ≡ n - 3
-past-three p n h = rw (ne-eqb p 0 (λ e. omega arith))
-
-pub no-room : (p n : ℕ) (rs : List Rec) → n < leastRoom p → false ≡ planFits p n rs
+no-room : (p n : ℕ) (rs : List Rec) → n < leastRoom p → false ≡ planFits p n rs
 unfolding planFits
 no-room p n rs h = rw (lt-leb (leastRoom p) n h)
 
@@ -50,7 +43,7 @@ has-room p n rs e = go (leb (leastRoom p) n) refl e
 abbrev atEnd : ℕ → List ℕ → ℕ → Bool
 atEnd p s len = eqb (placeIf (snameIn p) 64 s (placeIf (fileIn p) 128 s (taken (past52 p (len - 240)) (sheetRecords 0 s)))) (length s)
 
-pub last-place : (p len : ℕ) (s : List ℕ) → 240 ≤ len → leastRoom p ≤ len - 240 → Whole s → atEnd p s len ≡ planFits p (len - 240) (sheetRecords 0 s)
+last-place : (p len : ℕ) (s : List ℕ) → 240 ≤ len → leastRoom p ≤ len - 240 → Whole s → atEnd p s len ≡ planFits p (len - 240) (sheetRecords 0 s)
 last-place p len s h l w = go (replicate len 0) (length-replicate len 0)
   where
     go : (m : List ℕ) → length m ≡ len → atEnd p s len ≡ planFits p (len - 240) (sheetRecords 0 s)
@@ -60,44 +53,149 @@ last-place p len s h l w = go (replicate len 0) (length-replicate len 0)
         let f : planFits p (length m - 240) (sheetRecords 0 s) ≡ atEnd p s (length m) = plan-fits p m s (omega arith) (λ z. omega (arith, room-52 p (len - 240) l z)) all in
         ap (atEnd p s) (sym e) ∙ sym f ∙ ap (λ (k : ℕ). planFits p (k - 240) (sheetRecords 0 s)) e
 
+-- ---- The plans that overload
+
+module _ (len : ℕ) (s : List ℕ) (permission : ℕ) (some : permission ≡ 0 → ⊥) where
+  abbrev rs : List Rec
+  rs = sheetRecords 0 s
+
+  -- the answer, as `overload_plan` gives it
+  abbrev chosen : ℕ
+  chosen = firstFit (overloading permission) (len - 240) (sheetRecords 0 s)
+
+  of-2 : permission ≡ 2 → chosen ≡ cond (planFits 2 (len - 240) (sheetRecords 0 s)) 2 0
+  unfolding firstFit
+  of-2 e = rw (ne-eqb permission 0 some, ne-eqb permission 1 (λ z. omega arith), eq-eqb permission 2 e)
+
+  of-1 : permission ≡ 1 → chosen ≡ cond (planFits 1 (len - 240) (sheetRecords 0 s)) 1 0
+  unfolding firstFit
+  of-1 e = rw (ne-eqb permission 0 some, eq-eqb permission 1 e)
+
+  of-3 : (permission ≡ 1 → ⊥) → (permission ≡ 2 → ⊥)
+      → chosen ≡ cond (planFits 1 (len - 240) (sheetRecords 0 s)) 1 (cond (planFits 2 (len - 240) (sheetRecords 0 s)) 2 (cond (planFits 3 (len - 240) (sheetRecords 0 s)) 3 0))
+  unfolding firstFit
+  of-3 n1 n2 = rw (ne-eqb permission 0 some, ne-eqb permission 1 n1, ne-eqb permission 2 n2)
+
+  pub none-small : len - 240 < 4 → 0 ≡ chosen
+  unfolding firstFit
+  none-small h = sym (go (eqb permission 0) (eqb permission 1) (eqb permission 2))
+    where
+      go : (a b c : Bool) → firstFit (cond a [] (cond b (1 ∷ []) (cond c (2 ∷ []) (1 ∷ 2 ∷ 3 ∷ [])))) (len - 240) (sheetRecords 0 s) ≡ 0
+      go true b c = refl
+      go false true c = rw (← no-room 1 (len - 240) (sheetRecords 0 s) h)
+      go false false true = rw (← no-room 2 (len - 240) (sheetRecords 0 s) h)
+      go false false false = rw (← no-room 1 (len - 240) (sheetRecords 0 s) h, ← no-room 2 (len - 240) (sheetRecords 0 s) h, ← no-room 3 (len - 240) (sheetRecords 0 s) h)
+
+  -- a is the place after options, f the one after file behind it
+  module _ (h : 240 ≤ len) (l : 4 ≤ len - 240) (w : Whole s) (a : ℕ) (ea : a ≡ taken (len - 240 - 3) (sheetRecords 0 s)) where
+    fits-2 : planFits 2 (len - 240) (sheetRecords 0 s) ≡ eqb (placeAfter 64 s a) (length s)
+    fits-2 = rw ea (sym (last-place 2 len s h l w))
+
+    pub with-sname : (r : ℕ) → permission ≡ 2 → r ≡ cond (eqb (placeAfter 64 s a) (length s)) 2 0 → r ≡ chosen
+    with-sname r e er = er ∙ sym (of-2 e ∙ ap (λ (b : Bool). cond b 2 0) fits-2)
+
+    module _ (n2 : permission ≡ 2 → ⊥) (f : ℕ) (ef : f ≡ placeAfter 128 s a) where
+      fits-1 : planFits 1 (len - 240) (sheetRecords 0 s) ≡ eqb f (length s)
+      fits-1 = rw (ef, ea) (sym (last-place 1 len s h l w))
+
+      fits-3 : planFits 3 (len - 240) (sheetRecords 0 s) ≡ eqb (placeAfter 64 s f) (length s)
+      fits-3 = rw (ef, ea) (sym (last-place 3 len s h l w))
+
+      pub with-file : f ≡ length s → 1 ≡ chosen
+      with-file e = sym (go (eqb permission 1) refl)
+        where
+          go : (b : Bool) → eqb permission 1 ≡ b → chosen ≡ 1
+          go true q = of-1 (eqb-true permission 1 q) ∙ (rw (fits-1, eq-eqb f (length s) e))
+          go false q = of-3 (eqb-false permission 1 q) n2 ∙ (rw (fits-1, eq-eqb f (length s) e))
+
+      module _ (n : f ≡ length s → ⊥) where
+        pub file-alone : permission ≡ 1 → 0 ≡ chosen
+        file-alone e = sym (of-1 e ∙ (rw (fits-1, ne-eqb f (length s) n)))
+
+        module _ (n1 : permission ≡ 1 → ⊥) where
+          third : chosen ≡ cond (eqb (placeAfter 64 s a) (length s)) 2 (cond (eqb (placeAfter 64 s f) (length s)) 3 0)
+          third = rw (← fits-2, ← fits-3) (of-3 n1 n2 ∙ ap (λ (b : Bool). cond b 1 (cond (planFits 2 (len - 240) (sheetRecords 0 s)) 2 (cond (planFits 3 (len - 240) (sheetRecords 0 s)) 3 0))) (fits-1 ∙ ne-eqb f (length s) n))
+
+          pub sname-alone : (p : ℕ) → p ≡ cond (eqb (placeAfter 64 s a) (length s)) 2 0 → (p ≡ 0 → ⊥) → p ≡ chosen
+          sname-alone p ep z = sym (third ∙ go (eqb (placeAfter 64 s a) (length s)) ep)
+            where
+              go : (b : Bool) → p ≡ cond b 2 0 → cond b 2 (cond (eqb (placeAfter 64 s f) (length s)) 3 0) ≡ p
+              go true e = sym e
+              go false e = absurd (z e)
+
+          pub with-both : (p : ℕ) → p ≡ cond (eqb (placeAfter 64 s a) (length s)) 2 0 → p ≡ 0 → (r : ℕ) → r ≡ cond (eqb (placeAfter 64 s f) (length s)) 3 0 → r ≡ chosen
+          with-both p ep z r er = er ∙ sym (third ∙ go (eqb (placeAfter 64 s a) (length s)) ep)
+            where
+              go : (b : Bool) → p ≡ cond b 2 0 → cond b 2 (cond {A = ℕ} (eqb (placeAfter 64 s f) (length s)) 3 0) ≡ cond (eqb (placeAfter 64 s f) (length s)) 3 0
+              go true e = absurd (omega arith)
+              go false e = refl
+
 -- ---- The plans, one after the other
 
-module _ (p : ℕ) (ps m m′ : List ℕ) (rs : List Rec) (b : Bool) (fit : b ≡ planFits p (length m - 240) rs) (left : m′ ≡ cond b (written p m rs) m) where
-  pub tried-yes : b ≡ true → Gives (tryPlans (p ∷ ps) m rs) m (Plan p) m′
-  unfolding tryPlans
-  tried-yes e = rw (← fit, e) (record { answer = refl; buffer = left ∙ ap (λ (x : Bool). cond x (written p m rs) m) e })
+-- each of these plans overloads
+abbrev Overload : List ℕ → Type 0
+Overload [] = Unit {0}
+Overload (p ∷ ps) = (1 ≤ p) × Overload ps
 
-  same : b ≡ false → m′ ≡ m
-  same e = left ∙ ap (λ (x : Bool). cond x (written p m rs) m) e
-
-  pub tried-no : b ≡ false → (r : Wrote) (m″ : List ℕ) → Gives (tryPlans ps m′ rs) m′ r m″ → Gives (tryPlans (p ∷ ps) m rs) m r m″
-  unfolding tryPlans
-  tried-no e r m″ g = rw (← fit, e) (rw (same e) at g)
-
-pub none-fits : (m : List ℕ) (rs : List Rec) → Gives (tryPlans [] m rs) m (Refused 11 (length m)) m
-unfolding tryPlans
-none-fits m rs = record { answer = refl; buffer = refl }
-
-pub plans-are : (permission : ℕ) → plans permission ≡ 0 ∷ overloading permission
-plans-are permission = go (eqb permission 0) (eqb permission 1) (eqb permission 2)
+overload : (permission : ℕ) → Overload (overloading permission)
+overload permission = go (eqb permission 0) (eqb permission 1) (eqb permission 2)
   where
-    go : (a b c : Bool) → cond {A = List ℕ} a (0 ∷ []) (cond b (0 ∷ 1 ∷ []) (cond c (0 ∷ 2 ∷ []) (0 ∷ 1 ∷ 2 ∷ 3 ∷ []))) ≡ 0 ∷ cond a [] (cond b (1 ∷ []) (cond c (2 ∷ []) (1 ∷ 2 ∷ 3 ∷ [])))
-    go true b c = refl
-    go false true c = refl
-    go false false true = refl
-    go false false false = refl
+    go : (a b c : Bool) → Overload (cond a [] (cond b (1 ∷ []) (cond c (2 ∷ []) (1 ∷ 2 ∷ 3 ∷ []))))
+    go true b c = tt
+    go false true c = (omega arith, tt)
+    go false false true = (omega arith, tt)
+    go false false false = (omega arith, (omega arith, (omega arith, tt)))
 
-pub overloading-0 : (permission : ℕ) → permission ≡ 0 → overloading permission ≡ []
-overloading-0 permission e = rw (eq-eqb permission 0 e)
+module _ (m : List ℕ) (rs : List Rec) where
+  none-of : (ps : List ℕ) → Overload ps → firstFit ps (length m - 240) rs ≡ 0 → tryPlans ps m rs ≡ declined 11 (length m)
+  unfolding firstFit tryPlans
+  none-of [] o e = refl
+  none-of (p ∷ ps) o e = go (planFits p (length m - 240) rs) (none-of ps (o .1)) e
+    where
+      go : (b : Bool) → (firstFit ps (length m - 240) rs ≡ 0 → tryPlans ps m rs ≡ declined 11 (length m))
+          → cond b p (firstFit ps (length m - 240) rs) ≡ 0 → cond b (wrote p (written p m rs)) (tryPlans ps m rs) ≡ declined 11 (length m)
+      go true ih q = absurd (omega (arith, o .0))
+      go false ih q = ih q
 
-pub overloading-1 : (permission : ℕ) → (permission ≡ 0 → ⊥) → permission ≡ 1 → overloading permission ≡ 1 ∷ []
-overloading-1 permission n e = rw (ne-eqb permission 0 n, eq-eqb permission 1 e)
+  first-of : (ps : List ℕ) (q : ℕ) → q ≡ firstFit ps (length m - 240) rs → (q ≡ 0 → ⊥) → (tryPlans ps m rs ≡ wrote q (written q m rs)) × (planFits q (length m - 240) rs ≡ true)
+  unfolding firstFit tryPlans
+  first-of [] q e z = absurd (z e)
+  first-of (p ∷ ps) q e z = go (planFits p (length m - 240) rs) refl (λ y. first-of ps q y z) e
+    where
+      go : (b : Bool) → planFits p (length m - 240) rs ≡ b
+          → (q ≡ firstFit ps (length m - 240) rs → (tryPlans ps m rs ≡ wrote q (written q m rs)) × (planFits q (length m - 240) rs ≡ true))
+          → q ≡ cond b p (firstFit ps (length m - 240) rs) → (cond b (wrote p (written p m rs)) (tryPlans ps m rs) ≡ wrote q (written q m rs)) × (planFits q (length m - 240) rs ≡ true)
+      go true t ih y = rw y (refl, t)
+      go false t ih y = ih y
 
-pub overloading-2 : (permission : ℕ) → (permission ≡ 0 → ⊥) → (permission ≡ 1 → ⊥) → permission ≡ 2 → overloading permission ≡ 2 ∷ []
-overloading-2 permission n n1 e = rw (ne-eqb permission 0 n, ne-eqb permission 1 n1, eq-eqb permission 2 e)
+  module _ (permission q : ℕ) (e : q ≡ firstFit (overloading permission) (length m - 240) rs) where
+    pub none-fits : q ≡ 0 → Gives (tryPlans (overloading permission) m rs) m (Refused 11 (length m)) m
+    none-fits z = rw (none-of (overloading permission) (overload permission) (sym e ∙ z)) (record { answer = refl; buffer = refl })
 
-pub overloading-3 : (permission : ℕ) → (permission ≡ 0 → ⊥) → (permission ≡ 1 → ⊥) → (permission ≡ 2 → ⊥) → overloading permission ≡ 1 ∷ 2 ∷ 3 ∷ []
-overloading-3 permission n n1 n2 = rw (ne-eqb permission 0 n, ne-eqb permission 1 n1, ne-eqb permission 2 n2)
+    module _ (z : q ≡ 0 → ⊥) where
+      pub room-for : leastRoom q ≤ length m - 240
+      room-for = has-room q (length m - 240) rs (first-of (overloading permission) q e z .1)
+
+      pub fits-by : (m′ : List ℕ) → m′ ≡ written q m rs → Gives (tryPlans (overloading permission) m rs) m (Plan q) m′
+      fits-by m′ left = rw (first-of (overloading permission) q e z .0) (record { answer = refl; buffer = left })
+
+  plans-are : (permission : ℕ) → plans permission ≡ 0 ∷ overloading permission
+  plans-are permission = go (eqb permission 0) (eqb permission 1) (eqb permission 2)
+    where
+      go : (a b c : Bool) → cond {A = List ℕ} a (0 ∷ []) (cond b (0 ∷ 1 ∷ []) (cond c (0 ∷ 2 ∷ []) (0 ∷ 1 ∷ 2 ∷ 3 ∷ []))) ≡ 0 ∷ cond a [] (cond b (1 ∷ []) (cond c (2 ∷ []) (1 ∷ 2 ∷ 3 ∷ [])))
+      go true b c = refl
+      go false true c = refl
+      go false false true = refl
+      go false false false = refl
+
+  module _ (permission : ℕ) where
+    pub first-plan : (m′ : List ℕ) → planFits 0 (length m - 240) rs ≡ true → m′ ≡ written 0 m rs → Gives (tryPlans (plans permission) m rs) m (Plan 0) m′
+    unfolding tryPlans
+    first-plan m′ t left = rw (plans-are permission, t) (record { answer = refl; buffer = left })
+
+    pub next-plans : (r : Wrote) (m′ : List ℕ) → planFits 0 (length m - 240) rs ≡ false → Gives (tryPlans (overloading permission) m rs) m r m′ → Gives (tryPlans (plans permission) m rs) m r m′
+    unfolding tryPlans
+    next-plans r m′ t g = rw (plans-are permission, t) g
 
 -- ---- The tests before the plans
 

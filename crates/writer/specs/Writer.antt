@@ -5,6 +5,7 @@ use mathlib.Core.Bool.{Bool, cond}
 use Prim.Native.Nat.{ℕ, _+_}
 use lib.ListN.{length, drop}
 use lib.Dec.{eqb}
+use Rattle.options.specs.Message.{Rec}
 use Rattle.options.specs.Answers.{recordBytes}
 use Rattle.options.specs.Writing as options
 use Rattle.field_writer.specs.Fill.{sheetRecords, taken}
@@ -34,9 +35,18 @@ overloading permission =
     (cond (eqb permission 1) (1 ∷ [])
     (cond (eqb permission 2) (2 ∷ []) (1 ∷ 2 ∷ 3 ∷ [])))
 
--- the place after a further field of n bytes, where the plan uses it
+-- the first of these plans that fits, the options field having n bytes; 0 where none does
+unfoldable pub firstFit : List ℕ → ℕ → List Rec → ℕ
+unfolding options.planFits
+firstFit [] n rs = 0
+firstFit (p ∷ ps) n rs = cond (options.planFits p n rs) p (firstFit ps n rs)
+
+-- the place after a further field of n bytes, and where the plan uses it
+abbrev pub placeAfter : ℕ → List ℕ → ℕ → ℕ
+placeAfter n s at = at + taken n (sheetRecords 0 (drop at s))
+
 abbrev pub placeIf : Bool → ℕ → List ℕ → ℕ → ℕ
-placeIf used n s at = cond used (at + taken n (sheetRecords 0 (drop at s))) at
+placeIf used n s at = cond used (placeAfter n s at) at
 
 -- the records take all of the sheet
 abbrev pub Whole : List ℕ → Type 0

@@ -1,15 +1,16 @@
 // The writer (document 01, The settings sheet and the writer): a sheet into a buffer by the first permitted plan that fits, or a refusal.
 ghost use mathlib.Core.Path.{_≡_};
 ghost use mathlib.Core.Bool.{cond};
+ghost use lib.Dec.{eqb};
 ghost use mathlib.Core.List.{[], _∷_};
 ghost use Prim.Native.Nat.{_-_, _≤_};
 ghost use lib.ListN.{length, drop};
 ghost use Rattle.options.specs.Message.{cookie};
 ghost use Rattle.options.specs.Reading.{fileIn, snameIn};
 ghost use Rattle.options.specs.Kinds.{kinds};
-ghost use Rattle.options.specs.Writing.{written, planFits, plans, tryPlans, writer};
+ghost use Rattle.options.specs.Writing.{written, plans, tryPlans, writer};
 ghost use Rattle.field_writer.specs.Fill.{sheetRecords, filled};
-ghost use Rattle.writer.specs.Writer.{leastRoom, placeIf, overloading, Whole, Gives};
+ghost use Rattle.writer.specs.Writer.{leastRoom, placeAfter, placeIf, overloading, firstFit, Whole, Gives};
 
 // The plan that was used, or number and place of the refusal.
 pub enum Wrote {
@@ -49,84 +50,73 @@ fn write_plan(m: &mut [u8], s: &[u8], plan: u8, file: bool, sname: bool)
     fill_if(&mut m[44..108], sname, s, b);
 }
 
-// The place in the sheet after a further field, where the plan uses it.
-fn place_if(used: bool, room: usize, s: &[u8], from: usize) -> usize
-    ensures { λ r. ⌜ r ≡ placeIf used room (now (s .entry)) from ⌝ }
+// The plan, where sname takes the records from a place of the sheet on; else 0.
+fn sname_last(s: &[u8], from: usize, plan: u8) -> u8
+    ensures { λ r. ⌜ r ≡ cond (eqb (placeAfter 64 (now (s .entry)) from) (length (now (s .entry)))) plan 0 ⌝ }
 {
-    if used {
-        field_writer::place_after(room, s, from)
+    if field_writer::place_after(64, s, from) == s.len() {
+        plan
     } else {
-        from
+        0
     }
 }
 
-// Whether a plan that overloads leaves no record over, in a buffer of so many bytes; nothing is written.
-fn plan_fits(len: usize, s: &[u8], plan: u8, file: bool, sname: bool) -> bool
-    requires { ⌜ (240 ≤ len) × (1 ≤ plan) × Whole (now s) × (file ≡ fileIn plan) × (sname ≡ snameIn plan) ⌝ }
-    ensures { λ r. ⌜ r ≡ planFits plan (len - 240) (sheetRecords 0 (now (s .entry))) ⌝ }
+// The first permitted plan that overloads and leaves no record over, in a buffer of so many bytes; else 0. Nothing is written.
+fn overload_plan(len: usize, s: &[u8], permission: u8) -> u8
+    requires { ⌜ (240 ≤ len) × Whole (now s) ⌝ }
+    ensures { λ r. ⌜ r ≡ firstFit (overloading permission) (len - 240) (sheetRecords 0 (now (s .entry))) ⌝ }
 {
+    if permission == 0 {
+        return 0;
+    }
     let n = len - 240;
     if n < 4 {
-        return false;
+        return 0;
     }
-    let a = field_writer::place_after(n - 3, s, 0);
-    let b = place_if(file, 128, s, a);
-    let c = place_if(sname, 64, s, b);
-    c == s.len()
+    let options = field_writer::place_after(n - 3, s, 0);
+    if permission == 2 {
+        return sname_last(s, options, 2);
+    }
+    let file = field_writer::place_after(128, s, options);
+    if file == s.len() {
+        return 1;
+    }
+    if permission == 1 {
+        return 0;
+    }
+    let plan = sname_last(s, options, 2);
+    if plan != 0 {
+        return plan;
+    }
+    sname_last(s, file, 3)
 }
 
-// Writes a sheet by a plan that overloads where it fits, and else leaves the buffer as it was.
-fn try_plan(m: &mut [u8], s: &[u8], plan: u8, file: bool, sname: bool) -> bool
-    requires { ⌜ (240 ≤ length (now m)) × (1 ≤ plan) × Whole (now s) × (file ≡ fileIn plan) × (sname ≡ snameIn plan) ⌝ }
-    ensures { λ r. ⌜ (r ≡ planFits plan (length (now (m .entry)) - 240) (sheetRecords 0 (now (s .entry)))) × (now (m .exit) ≡ cond r (written plan (now (m .entry)) (sheetRecords 0 (now (s .entry)))) (now (m .entry))) ⌝ }
+fn uses_file(plan: u8) -> bool
+    ensures { λ r. ⌜ r ≡ fileIn plan ⌝ }
 {
-    if plan_fits(m.len(), s, plan, file, sname) {
-        write_plan(m, s, plan, file, sname);
-        true
-    } else {
-        false
-    }
+    if plan == 1 { true } else { plan == 3 }
 }
 
-// The last plan to be tried.
-fn last_plan(m: &mut [u8], s: &[u8], plan: u8, file: bool, sname: bool) -> Wrote
-    requires { ⌜ (240 ≤ length (now m)) × (1 ≤ plan) × Whole (now s) × (file ≡ fileIn plan) × (sname ≡ snameIn plan) ⌝ }
-    ensures { λ r. ⌜ Gives (tryPlans (plan ∷ []) (now (m .entry)) (sheetRecords 0 (now (s .entry)))) (now (m .entry)) r (now (m .exit)) ⌝ }
+fn uses_sname(plan: u8) -> bool
+    ensures { λ r. ⌜ r ≡ snameIn plan ⌝ }
 {
-    if try_plan(m, s, plan, file, sname) {
-        Wrote::Plan(plan as u32)
-    } else {
-        Wrote::Refused {
-            number: 11,
-            place: m.len(),
-        }
-    }
+    if plan == 2 { true } else { plan == 3 }
 }
 
-// Tries the permitted plans that overload, rising.
-fn overload_plans(m: &mut [u8], s: &[u8], permission: u8) -> Wrote
+// The plans that overload, after plan 0.
+fn write_overloaded(m: &mut [u8], s: &[u8], permission: u8) -> Wrote
     requires { ⌜ (240 ≤ length (now m)) × Whole (now s) ⌝ }
     ensures { λ r. ⌜ Gives (tryPlans (overloading permission) (now (m .entry)) (sheetRecords 0 (now (s .entry)))) (now (m .entry)) r (now (m .exit)) ⌝ }
 {
-    if permission == 0 {
+    let plan = overload_plan(m.len(), s, permission);
+    if plan == 0 {
         return Wrote::Refused {
             number: 11,
             place: m.len(),
         };
     }
-    if permission == 1 {
-        return last_plan(m, s, 1, true, false);
-    }
-    if permission == 2 {
-        return last_plan(m, s, 2, false, true);
-    }
-    if try_plan(m, s, 1, true, false) {
-        return Wrote::Plan(1);
-    }
-    if try_plan(m, s, 2, false, true) {
-        return Wrote::Plan(2);
-    }
-    last_plan(m, s, 3, true, true)
+    write_plan(m, s, plan, uses_file(plan), uses_sname(plan));
+    Wrote::Plan(plan as u32)
 }
 
 // Plan 0 first. An option is one byte shorter than its record, so their number tells whether all fit.
@@ -138,7 +128,7 @@ fn write_plans(m: &mut [u8], s: &[u8], records: usize, permission: u8) -> Wrote
         write_plan(m, s, 0, false, false);
         return Wrote::Plan(0);
     }
-    overload_plans(m, s, permission)
+    write_overloaded(m, s, permission)
 }
 
 // Writes a sheet into a buffer whose header is there. A refusal changes no byte.

@@ -1,14 +1,9 @@
 -- `lookup::lookup` meets its contract. Assumes nothing.
 use borrow.Author.Needs.{needs}
-use mathlib.Core.Path.{_≡_, refl, _∙_}
-use borrow.Author.Tests.{eq-eqb, ne-eqb}
 use Rattle.options.specs.KindClaims.{AllBytes}
-use Rattle.options.specs.Reading.{accepted, refused}
-use Rattle.wire.specs.Walk.{walkedOf}
-use Rattle.message.proofs.Bridge.{all-bytes}
-use Rattle.message.proofs.Split.{scan-refused, scan-accepted}
 use Rattle.options.specs.CodeSet.{marked}
-use Rattle.lookup.proofs.Laws.{offset-small, data-within, found-is, lookup-zero, lookup-end, lookup-read}
+use Rattle.message.proofs.Bridge.{all-bytes, first-alone, first-further}
+use Rattle.lookup.proofs.Laws.{lookup-zero, lookup-end}
 use Rattle.lookup.proofs.lookup.Statement.{statement}
 use Rattle.lookup.proofs.lookup.Tie as tie
 
@@ -18,36 +13,39 @@ returns c = lookup-zero (c .before .before .args .m .now) (c .before .before .ar
 returns-2 : tie.Need-returns-2
 returns-2 c = lookup-end (c .before .before .before .args .m .now) (c .before .before .before .args .code) (marked (c .before .before .before .args .known)) (c .before .if1 .left) (c .if2 .taken)
 
-scan-requires : tie.Need-scan-requires
-scan-requires c κs = search needs
+first-requires : tie.Need-first-requires
+first-requires c κs = search needs
+
+answer-in-requires : tie.Need-answer-in-requires
+answer-in-requires c κs =
+    let m = c .before .before .before .before .before .args .m .now in
+    let k : AllBytes m = all-bytes m (λ i. c .before .before .before .before .shared-slice-known .given i .fits) in
+    (c .before .before .before .if1 .left, c .before .before .if2 .left, first-alone k (c .before .first .ensures) (c .if3 .taken))
 
 returns-3 : tie.Need-returns-3
-returns-3 c =
-    let s = c .before .before .before .before .before .before in
-    let m = s .args .m .now in
-    let w = c .before .before .scan .result in
-    let e = scan-refused (s .args .code) m (walkedOf w) (w .number) (w .place) (c .before .before .scan .ensures .is) (rw (ne-eqb _ _ (c .if3 .taken)) refl) in
-    lookup-read m (s .args .code) (marked (s .args .known)) (refused (w .number) (w .place)) (c .before .before .before .before .if1 .left) (c .before .before .before .if2 .left) e
+returns-3 c = c .answer-in .ensures
 
-found-requires : tie.Need-found-requires
-found-requires c κs =
-    let s = c .before .before .before .before .before .before in
-    let m = s .args .m .now in
-    let r = walkedOf (c .before .before .scan .result) in
+further-requires : tie.Need-further-requires
+further-requires c κs = search needs
+
+answer-in-requires-2 : tie.Need-answer-in-requires-2
+answer-in-requires-2 c κs =
+    let m = c .before .before .before .before .before .before .args .m .now in
     let k : AllBytes m = all-bytes m (λ i. c .before .before .before .before .before .shared-slice-known .given i .fits) in
-    let a = scan-accepted (s .args .code) m r k (c .before .before .scan .ensures .is) (rw (eq-eqb _ _ (c .if3 .left)) refl) in
-    (offset-small (s .args .code) m r (a .0) (a .1), data-within (s .args .code) m r (a .0) (a .1))
+    (c .before .before .before .before .if1 .left, c .before .before .before .if2 .left, first-further k (c .before .before .first .ensures) (c .further .ensures))
 
 returns-4 : tie.Need-returns-4
-returns-4 c =
-    let s = c .before .before .before .before .before .before .before in
-    let m = s .args .m .now in
-    let r = walkedOf (c .before .before .before .scan .result) in
-    let k : AllBytes m = all-bytes m (λ i. c .before .before .before .before .before .before .shared-slice-known .given i .fits) in
-    let a = scan-accepted (s .args .code) m r k (c .before .before .before .scan .ensures .is) (rw (eq-eqb _ _ (c .before .if3 .left)) refl) in
-    c .found .ensures ∙ found-is (s .args .code) m r (a .0) (a .1) (marked (s .args .known))
-    ∙ lookup-read m (s .args .code) (marked (s .args .known)) (accepted (a .0)) (c .before .before .before .before .before .if1 .left) (c .before .before .before .before .if2 .left) (a .1 .reads)
+returns-4 c = c .answer-in2 .ensures
 
 pub lookup-spec : {M : Type 1} → statement M
 lookup-spec =
-    tie.close (tie.spec returns returns-2 scan-requires returns-3 found-requires returns-4)
+    tie.close
+    (tie.spec
+    returns
+    returns-2
+    first-requires
+    answer-in-requires
+    returns-3
+    further-requires
+    answer-in-requires-2
+    returns-4)

@@ -9,11 +9,11 @@ use Rattle.message.proofs.walk_if.Tie as tie
 
 returns : tie.Need-returns
 unfolding walkIf
-returns c = record { is = rw (not-true (c .before .before .args .on) (c .if1 .taken)) refl; within = omega arith; no-place = c .before .before .pre .2 }
+returns c = record { is = rw (not-true (c .before .before .args .on) (c .if1 .taken)) refl; within = omega arith; no-place = λ h. h }
 
 returns-2 : tie.Need-returns-2
 unfolding walkIf
-returns-2 c = record { is = rw (not-false (c .before .before .before .before .args .on) (c .before .before .if1 .left), ne-eqb _ _ (c .if2 .taken)) refl; within = omega arith; no-place = c .before .before .before .before .pre .2 }
+returns-2 c = record { is = rw (not-false (c .before .before .before .before .args .on) (c .before .before .if1 .left), ne-eqb _ _ (c .if2 .taken)) refl; within = omega arith; no-place = λ h. h }
 
 walk-requires : tie.Need-walk-requires
 walk-requires c κs = search needs
@@ -27,7 +27,7 @@ returns-3 c =
     record {
       is = rw (not-false (c .before .before .before .before .before .before .args .on) (c .before .before .before .before .if1 .left), eq-eqb _ _ (c .before .before .if2 .left), ← c .before .walk .ensures .is) (c .join .ensures .0);
       within = omega (arith, c .join .ensures .1, c .before .walk .ensures .within);
-      no-place = c .join .ensures .2;
+      no-place = λ h. c .join .ensures .2;
     }
 
 pub walk-if-spec : {M : Type 1} → statement M

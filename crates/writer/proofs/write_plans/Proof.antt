@@ -1,16 +1,14 @@
 -- `writer::write_plans` meets its contract: plan 0 where the options and END fit, and else the plans that overload. Assumes nothing.
-use mathlib.Core.Path.{_≡_, refl, sym, ap, _∙_}
+use mathlib.Core.Path.{_≡_, refl}
 use mathlib.Core.Bool.{true, false}
 use mathlib.Core.List.{List}
 use Prim.Native.Nat.{ℕ, _-_, _<_, _≤_}
 use native.Mathlib.Omega.{arith}
 use lib.ListN.{length}
 use denote.Ref.{now}
-use Rattle.options.specs.Writing.{planFits}
 use Rattle.field_writer.specs.Fill.{sheetRecords}
-use Rattle.writer.specs.Writer.{overloading}
 use Rattle.writer.proofs.FirstPlan.{few, first-fits, first-fails}
-use Rattle.writer.proofs.Trying.{tried-yes, tried-no, plans-are}
+use Rattle.writer.proofs.Trying.{first-plan, next-plans}
 use borrow.Author.Needs.{needs}
 use Rattle.writer.proofs.write_plans.Statement.{statement}
 use Rattle.writer.proofs.write_plans.Tie as tie
@@ -31,13 +29,12 @@ returns : tie.Need-returns
 returns c =
     let start = c .before .before .before .before .before .before .before in
     let s : List ℕ = now (start .args .s) in
-    let n : ℕ = length (now (start .args .m)) - 240 in
-    let fits : planFits 0 n (sheetRecords 0 s) ≡ true = first-fits n s (start .pre .1) (omega (arith, c .before .before .before .before .if1 .taken, start .pre .2)) in
-    rw (plans-are (start .args .permission))
-    (tried-yes 0 (overloading (start .args .permission)) (now (start .args .m)) (c .before .before .write-plan .last .0) (sheetRecords 0 s) true (sym fits) (c .before .before .write-plan .ensures) refl)
+    first-plan (now (start .args .m)) (sheetRecords 0 s) (start .args .permission) _
+    (first-fits (length (now (start .args .m)) - 240) s (start .pre .1) (omega (arith, c .before .before .before .before .if1 .taken, start .pre .2)))
+    (c .before .before .write-plan .ensures)
 
-overload-plans-requires : tie.Need-overload-plans-requires
-overload-plans-requires c κs = search needs
+write-overloaded-requires : tie.Need-write-overloaded-requires
+write-overloaded-requires c κs = search needs
 
 same-length-2 : tie.Need-same-length-2
 same-length-2 c = search needs
@@ -46,10 +43,9 @@ returns-2 : tie.Need-returns-2
 returns-2 c =
     let start = c .before .before .before .before .before .before .before in
     let s : List ℕ = now (start .args .s) in
-    let n : ℕ = length (now (start .args .m)) - 240 in
-    let fails : planFits 0 n (sheetRecords 0 s) ≡ false = first-fails n s (start .pre .1) (omega (arith, c .before .before .before .before .if1 .left, start .pre .2)) in
-    rw (plans-are (start .args .permission))
-    (tried-no 0 (overloading (start .args .permission)) (now (start .args .m)) (now (start .args .m)) (sheetRecords 0 s) false (sym fails) refl refl _ _ (c .before .before .overload-plans .ensures))
+    next-plans (now (start .args .m)) (sheetRecords 0 s) (start .args .permission) _ _
+    (first-fails (length (now (start .args .m)) - 240) s (start .pre .1) (omega (arith, c .before .before .before .before .if1 .left, start .pre .2)))
+    (c .before .before .write-overloaded .ensures)
 
 pub write-plans-spec : {M : Type 1} → statement M
 write-plans-spec =
@@ -60,6 +56,6 @@ write-plans-spec =
     write-plan-requires
     same-length
     returns
-    overload-plans-requires
+    write-overloaded-requires
     same-length-2
     returns-2)

@@ -1,9 +1,9 @@
--- `vectors::print::sum` is safe and ends: what is kept stays below 1,000,003. Assumes nothing.
+-- `console::sum` is safe and ends: what is kept stays below 1,000,003. Assumes nothing.
 use borrow.Author.Needs.{needs}
 use Prim.Native.Nat.{_-_, _≤_, _<_}
 use lib.ListN.{length}
-use Rattle.vectors.proofs.print.sum.Statement.{statement}
-use Rattle.vectors.proofs.print.sum.Tie as tie
+use Rattle.console.proofs.sum.Statement.{statement}
+use Rattle.console.proofs.sum.Tie as tie
 
 abbrev Inv-loop : tie.InvT-loop
 Inv-loop s t₀ i₀ t i = (i ≤ length s) × (t < 1000003)

@@ -1,0 +1,117 @@
+/*
+ * compare messages FILE...   makes every reading call on each message by the library and in plain C, and stops where they differ
+ * compare sheets FILE...     writes each sheet with both: every buffer size, every permission, cut off anywhere, any byte changed
+ */
+#include "input.h"
+#include "library.h"
+#include "plain.h"
+
+#include <string.h>
+
+enum { ROOM = 4096, UNTOUCHED = 0xA5, LONGEST = 1472 };
+
+static uint8_t in[ROOM];
+static size_t size;
+
+static const uint64_t every[4] = {UINT64_MAX, UINT64_MAX, UINT64_MAX, UINT64_MAX};
+
+static void compare_lookup(const char *name, const uint64_t known[4], uint8_t code)
+{
+    plain_answer p = plain_lookup(in, size, known, code);
+    dhcpopt_answer l = dhcpopt_lookup(in, size, known[0], known[1], known[2], known[3], code);
+    if (p.status != l.status || p.kind != l.kind || p.refusal != l.refusal || p.number != l.number || p.place != l.place ||
+        p.start != l.start || p.length != l.length) {
+        fprintf(stderr, "lookup of %u: plain %u %u %u %lld %zu %zu %zu, library %u %u %u %lld %zu %zu %zu\n", code,
+                p.status, p.kind, p.refusal, (long long)p.number, p.place, p.start, p.length,
+                l.status, l.kind, l.refusal, (long long)l.number, l.place, l.start, l.length);
+        fail("answers differ", name);
+    }
+}
+
+static void compare_records(const char *name, size_t room)
+{
+    static uint8_t a[ROOM], b[ROOM];
+    memset(a, UNTOUCHED, ROOM);
+    memset(b, UNTOUCHED, ROOM);
+    plain_filled p = plain_records(in, size, a, room);
+    dhcpopt_filled l = dhcpopt_records(in, size, b, room);
+    if (p.refusal != l.refusal || p.size != l.size || p.place != l.place || memcmp(a, b, ROOM) != 0)
+        fail("records differ", name);
+}
+
+static void compare_message(const char *name)
+{
+    static const uint64_t none[4];
+    static const uint64_t some[4] = {0x5555555555555555, 0x3333333333333333, 0x0F0F0F0F0F0F0F0F, 0x00FF00FF00FF00FF};
+    static uint8_t out[ROOM];
+    for (unsigned c = 0; c < 256; c++) {
+        compare_lookup(name, every, (uint8_t)c);
+        compare_lookup(name, none, (uint8_t)c);
+        compare_lookup(name, some, (uint8_t)c);
+        plain_extent p = plain_data(in, size, (uint8_t)c);
+        dhcpopt_extent l = dhcpopt_data(in, size, (uint8_t)c);
+        if (p.start != l.start || p.length != l.length)
+            fail("data differs", name);
+    }
+    plain_codes p = plain_present(in, size);
+    dhcpopt_codes l = dhcpopt_present(in, size);
+    if (memcmp(p.words, l.words, sizeof p.words) != 0 || p.count != l.count || p.lowest != l.lowest || p.refusal != l.refusal ||
+        p.place != l.place)
+        fail("codes present differ", name);
+    plain_filled f = plain_records(in, size, out, ROOM);
+    compare_records(name, ROOM);
+    compare_records(name, f.size);
+    if (f.size > 0)
+        compare_records(name, f.size - 1);
+    compare_records(name, 0);
+}
+
+/* Both write the first n bytes of the sheet. */
+static void compare_write(const char *name, size_t n, size_t room, uint8_t permission)
+{
+    static uint8_t a[LONGEST + 8], b[LONGEST + 8];
+    memset(a, UNTOUCHED, sizeof a);
+    memset(b, UNTOUCHED, sizeof b);
+    plain_wrote p = plain_write(in, n, a, room, permission);
+    dhcpopt_wrote l = dhcpopt_write(in, n, b, room, permission);
+    if (p.refusal != l.refusal || p.plan != l.plan || p.place != l.place || memcmp(a, b, sizeof a) != 0) {
+        fprintf(stderr, "write of %zu bytes, buffer %zu, permission %u: plain %u %u %zu, library %u %u %zu\n", n, room, permission,
+                p.refusal, p.plan, p.place, l.refusal, l.plan, l.place);
+        fail("written differs", name);
+    }
+}
+
+static void compare_sheet(const char *name)
+{
+    for (uint8_t permission = 0; permission <= 4; permission++) {
+        for (size_t room = 239; room <= LONGEST + 1; room++)
+            compare_write(name, size, room, permission);
+        for (size_t n = 0; n <= size; n++)
+            compare_write(name, n, 300, permission);
+    }
+    for (size_t i = 0; i < size; i++) {
+        uint8_t was = in[i];
+        for (unsigned x = 0; x < 256; x++) {
+            in[i] = (uint8_t)x;
+            compare_write(name, size, 300, 3);
+        }
+        in[i] = was;
+    }
+    for (size_t n = ROOM - 1; n <= ROOM + 1; n++)
+        compare_write(name, n, LONGEST, 3);
+}
+
+int main(int argc, char **argv)
+{
+    if (argc < 3)
+        fail("usage", "compare messages|sheets FILE...");
+    for (int i = 2; i < argc; i++) {
+        memset(in, 0, sizeof in);
+        size = take(argv[i], in, sizeof in);
+        if (strcmp(argv[1], "sheets") == 0)
+            compare_sheet(argv[i]);
+        else
+            compare_message(argv[i]);
+    }
+    return 0;
+}

@@ -1,0 +1,44 @@
+// Bytes and numbers on standard output, for the programs that run cases.
+ghost use Prim.Native.Nat.{_<_};
+
+// A byte as a number.
+pub fn wide(x: u8) -> u64
+    ensures { λ r. ⌜ r < 256 ⌝ }
+{
+    x as u64
+}
+
+// Bytes as they are.
+pub fn word(text: &[u8]) {
+    io::write_all(1, text);
+}
+
+// A blank and a number.
+pub fn number(n: u64) {
+    word(b" ");
+    io::print_decimal(1, n);
+}
+
+// A name and one number after it.
+pub fn one(name: &[u8], n: u64) {
+    word(name);
+    number(n);
+}
+
+// A name and two numbers after it.
+pub fn two(name: &[u8], a: usize, b: usize) {
+    word(name);
+    number(a as u64);
+    number(b as u64);
+}
+
+// A number for a run of bytes: each byte adds itself to 31 times what was there.
+pub fn sum(s: &[u8]) -> u64 {
+    let mut t: u64 = 0;
+    let mut i: usize = 0;
+    while i < s.len() {
+        t = (t * 31 + wide(s[i])) % 1000003;
+        i = i + 1;
+    }
+    t
+}

@@ -1,0 +1,572 @@
+#!/usr/bin/env python3
+"""Write crates/sheets/stdin (sheets to be written, with their buffers) and crates/sheets/stdout (what is to be printed for them)."""
+
+import sys
+from collections import Counter
+from pathlib import Path
+
+HERE = Path(__file__).resolve().parent
+sys.path.append(str(HERE.parent))
+from codes import ADDRESS, ADDRESSES, FLAG, OPAQUE, TEXT, UNKNOWN, UNSIGNED32, ramp, total
+
+OUT = HERE.parent.parent / "crates" / "sheets"
+
+# --- What is printed ---------------------------------------------------------------------------------------------------
+
+PLACES = {"sname": (44, 108), "file": (108, 236), "cookie": (236, 240), "options": (240, None)}
+USED = {"plan 0": ["options"], "plan 1": ["options", "file"], "plan 2": ["options", "sname"],
+        "plan 3": ["options", "file", "sname"]}
+
+
+def lines(length, fill, expected):
+    """The lines of a case.
+
+    expected is 'refused N PLACE'; or 'plan P', then each field of the plan with its bytes up to END (and the number of
+    zeros behind, where it is worth writing down), then 'accepted N', the number of options in the message."""
+    old = bytes((fill + i) % 256 for i in range(length))
+    head, *parts = expected.split(" | ")
+    if head.startswith("refused"):
+        return [head, f"buffer sum {total(old)}"]
+    given = dict(part.split(" ", 1) for part in parts)
+    count = given.pop("accepted")
+    assert list(given) == USED[head], expected
+    shown = [head, f"header sum {total(old[:44])}"]
+    given["cookie"] = "63 82 53 63"
+    for name, (start, end) in PLACES.items():
+        shown.append(field(name, old[start:end], given.get(name)))
+    return shown + ["back same", f"accepted {count}"]
+
+
+def field(name, old, given):
+    """The line of a field: as it was when nothing is given."""
+    if given is None:
+        return f"{name} sum {total(old)}"
+    text, _, zeros = given.partition(" zeros ")
+    written = bytes.fromhex(text)
+    left = len(old) - len(written)
+    assert name == "cookie" or written[-1] == 255, given
+    assert left >= 0 and (not zeros or left == int(zeros)), (given, left)
+    return f"{name} {written.hex()} zeros {left}"
+
+
+# --- Parts of the cases ------------------------------------------------------------------------------------------------
+
+def record(tag, data):
+    """A record of a sheet, in hex."""
+    return f"{tag:02X} {len(bytes.fromhex(data)):04X} {data} "
+
+
+def option(tag, data):
+    """The same as an option of a message."""
+    return f"{tag:02X} {len(bytes.fromhex(data)):02X} {data} "
+
+
+def every_permission(reason, length, sheet, *expected):
+    """A case for each permission: with one expectation for all of them, or one for each."""
+    return [(f"{reason}, permission {p}", p, length, sheet, expected[p % len(expected)]) for p in range(4)]
+
+
+EMPTY = ""
+BARE = "FE 00 00 "                # 254 without data: an option of 2 bytes
+TYPE = "35 00 01 05 "             # 53 is 5: 3 bytes
+NAME = "0C 00 02 61 62 "          # 12, a text: 4 bytes
+LEASE = "33 00 04 00 00 0E 10 "   # 51 is 3600: 6 bytes
+MASK = "01 00 04 FF FF FF 00 "    # 1: 6 bytes
+ROUTER = "03 00 04 0A 00 00 01 "  # 3: 6 bytes
+DOMAIN = "0F 00 01 61 "           # 15, a text: 3 bytes
+
+NAME_IN_FILE = "plan 1 | options 34 01 01 FF zeros 0 | file 0C 02 61 62 FF zeros 123 | accepted 2"
+NAME_IN_SNAME = "plan 2 | options 34 01 02 FF zeros 0 | sname 0C 02 61 62 FF zeros 59 | accepted 2"
+
+# A record that fills file, one that fills sname, and the two fields with them.
+FILLS_FILE = "C8 00 7D" + ramp(125)
+FILLS_SNAME = "C9 00 3D" + ramp(61)
+FULL_FILE = "C8 7D" + ramp(125) + "FF zeros 0"
+FULL_SNAME = "C9 3D" + ramp(61) + "FF zeros 0"
+
+# --- The cases ---------------------------------------------------------------------------------------------------------
+# Reason, permission, buffer length, sheet, what is expected; and the buffer's first byte, where it is not FILL.
+FILL = 160
+
+OWN_CASES = [
+    ("9: fits to the byte", 0, 244, TYPE, "plan 0 | options 35 01 05 FF zeros 0 | accepted 1"),
+    ("9: one byte short", 0, 243, TYPE, "refused 11 243"),
+    ("10: 52 and END alone in options", 1, 244, LEASE,
+     "plan 1 | options 34 01 01 FF zeros 0 | file 33 04 00 00 0E 10 FF zeros 121 | accepted 2"),
+    ("10 with permission 0", 0, 244, LEASE, "refused 11 244"),
+    ("10 with permission 2", 2, 244, LEASE,
+     "plan 2 | options 34 01 02 FF zeros 0 | sname 33 04 00 00 0E 10 FF zeros 57 | accepted 2"),
+    ("10 with permission 3: plan 1 is tried before plan 2", 3, 244, LEASE,
+     "plan 1 | options 34 01 01 FF zeros 0 | file 33 04 00 00 0E 10 FF zeros 121 | accepted 2"),
+    *every_permission("10, no room for 52 and END", 243, LEASE, "refused 11 243"),
+]
+
+LENGTHS = [
+    ("no buffer", 0, 0, EMPTY, "refused 1 0"),
+    ("one byte", 3, 1, TYPE, "refused 1 1"),
+    ("the header alone", 3, 44, TYPE, "refused 1 44"),
+    ("up to the cookie", 3, 236, TYPE, "refused 1 236"),
+    *every_permission("239: nothing", 239, EMPTY, "refused 1 239"),
+    *every_permission("239: a record", 239, TYPE, "refused 1 239"),
+    *every_permission("240: no room for END", 240, EMPTY, "refused 11 240"),
+    *every_permission("240: a record", 240, BARE, "refused 11 240"),
+    *every_permission("241: END alone", 241, EMPTY, "plan 0 | options FF zeros 0 | accepted 0"),
+    *every_permission("241: an option without data", 241, BARE, "refused 11 241"),
+    *every_permission("241: an option of one byte", 241, TYPE, "refused 11 241"),
+    *every_permission("242: END and a zero", 242, EMPTY, "plan 0 | options FF zeros 1 | accepted 0"),
+    *every_permission("242: no room for END", 242, BARE, "refused 11 242"),
+    *every_permission("242: an option of one byte", 242, TYPE, "refused 11 242"),
+    *every_permission("243: END and zeros", 243, EMPTY, "plan 0 | options FF zeros 2 | accepted 0"),
+    *every_permission("243: an option without data", 243, BARE, "plan 0 | options FE 00 FF zeros 0 | accepted 1"),
+    # 52 would fit, but not with END
+    *every_permission("243: no room for END", 243, TYPE, "refused 11 243"),
+    *every_permission("243: an option of two bytes", 243, NAME, "refused 11 243"),
+    *every_permission("244: END and zeros", 244, EMPTY, "plan 0 | options FF zeros 3 | accepted 0"),
+    *every_permission("244: an option without data", 244, BARE, "plan 0 | options FE 00 FF zeros 1 | accepted 1"),
+    *every_permission("244: an option of one byte", 244, TYPE, "plan 0 | options 35 01 05 FF zeros 0 | accepted 1"),
+    *every_permission("244: 52 and END", 244, NAME, "refused 11 244", NAME_IN_FILE, NAME_IN_SNAME, NAME_IN_FILE),
+    *every_permission("245: an option of two bytes", 245, NAME, "plan 0 | options 0C 02 61 62 FF zeros 0 | accepted 1"),
+    *every_permission("300: nothing to write", 300, EMPTY, "plan 0 | options FF zeros 59 | accepted 0"),
+    ("1,471: nothing to write", 0, 1471, EMPTY, "plan 0 | options FF zeros 1230 | accepted 0"),
+    ("1,472: nothing to write", 3, 1472, EMPTY, "plan 0 | options FF zeros 1231 | accepted 0"),
+    ("1,472: a record", 0, 1472, TYPE, "plan 0 | options 35 01 05 FF zeros 1228 | accepted 1"),
+    *every_permission("1,473: nothing to write", 1473, EMPTY, "refused 2 1473"),
+    *every_permission("1,473: a record", 1473, TYPE, "refused 2 1473"),
+    ("1,474", 0, 1474, TYPE, "refused 2 1474"),
+    ("1,600", 3, 1600, EMPTY, "refused 2 1600"),
+]
+
+PERMISSIONS = [
+    ("permission 4", 4, 300, TYPE, "refused 15 0"),
+    ("permission 5", 5, 300, TYPE, "refused 15 0"),
+    ("permission 7: not its low bits", 7, 300, TYPE, "refused 15 0"),
+    ("permission 128", 128, 300, TYPE, "refused 15 0"),
+    ("permission 254", 254, 300, TYPE, "refused 15 0"),
+    ("permission 255", 255, 300, TYPE, "refused 15 0"),
+    ("permission 4, nothing to write", 4, 300, EMPTY, "refused 15 0"),
+    ("permission 255, nothing to write", 255, 1472, EMPTY, "refused 15 0"),
+]
+
+# Rooms for options and END: the buffer's length less 240 (and less 3 with 52), 128 and 64.
+# What fits plan 2 fits plan 1: both put the same records beside 52, and file is the longer. So with permission 3 the plan is
+# 0, 1 or 3. Where plan 0 does not fit, some record has no room beside 52; where plan 1 does not fit either, some has none in
+# file. So of the fields of the plan that is used, options alone can be without a record.
+PLANS = [
+    # Plan 0.
+    *every_permission("plan 0: just fits", 247, LEASE, "plan 0 | options 33 04 00 00 0E 10 FF zeros 0 | accepted 1"),
+    *every_permission("plan 0: one byte short", 246, LEASE, "refused 11 246",
+                      "plan 1 | options 34 01 01 FF zeros 2 | file 33 04 00 00 0E 10 FF zeros 121 | accepted 2",
+                      "plan 2 | options 34 01 02 FF zeros 2 | sname 33 04 00 00 0E 10 FF zeros 57 | accepted 2",
+                      "plan 1 | options 34 01 01 FF zeros 2 | file 33 04 00 00 0E 10 FF zeros 121 | accepted 2"),
+    *every_permission("plan 0: the second just fits", 250, TYPE + LEASE,
+                      "plan 0 | options 35 01 05 33 04 00 00 0E 10 FF zeros 0 | accepted 2"),
+    *every_permission("plan 0: the second one byte short", 249, TYPE + LEASE, "refused 11 249",
+                      "plan 1 | options 34 01 01 35 01 05 FF zeros 2 | file 33 04 00 00 0E 10 FF | accepted 3",
+                      "plan 2 | options 34 01 02 35 01 05 FF zeros 2 | sname 33 04 00 00 0E 10 FF | accepted 3",
+                      "plan 1 | options 34 01 01 35 01 05 FF zeros 2 | file 33 04 00 00 0E 10 FF | accepted 3"),
+    ("plan 0: room to spare", 3, 260, TYPE + LEASE, "plan 0 | options 35 01 05 33 04 00 00 0E 10 FF zeros 10 | accepted 2"),
+    *every_permission("255 bytes just fit", 498, "C8 00 FF" + ramp(255),
+                      "plan 0 | options C8 FF" + ramp(255) + "FF zeros 0 | accepted 1"),
+    *every_permission("255 bytes, one byte short: too large for file and sname", 497, "C8 00 FF" + ramp(255), "refused 11 497"),
+
+    # Plan 1: beside 52, and in file.
+    ("beside 52: just fits, file full", 1, 250, LEASE + FILLS_FILE,
+     "plan 1 | options 34 01 01 33 04 00 00 0E 10 FF zeros 0 | file " + FULL_FILE + " | accepted 3"),
+    ("beside 52: one byte short, no room in file", 1, 249, LEASE + FILLS_FILE, "refused 11 249"),
+    ("beside 52: one byte short, both fill file", 1, 249, LEASE + "C8 00 77" + ramp(119),
+     "plan 1 | options 34 01 01 FF zeros 5 | file 33 04 00 00 0E 10 C8 77" + ramp(119) + "FF zeros 0 | accepted 3"),
+    ("beside 52: one byte short, both one byte too long for file", 1, 249, LEASE + "C8 00 78" + ramp(120), "refused 11 249"),
+    *every_permission("file full", 244, FILLS_FILE, "refused 11 244",
+                      "plan 1 | options 34 01 01 FF | file " + FULL_FILE + " | accepted 2", "refused 11 244",
+                      "plan 1 | options 34 01 01 FF | file " + FULL_FILE + " | accepted 2"),
+    *every_permission("one byte too long for file", 244, "C8 00 7E" + ramp(126), "refused 11 244"),
+    ("file full by two", 1, 244, "C8 00 3C" + ramp(60) + "C9 00 3F" + ramp(63),
+     "plan 1 | options 34 01 01 FF | file C8 3C" + ramp(60) + "C9 3F" + ramp(63) + "FF zeros 0 | accepted 3"),
+    ("one byte too long for file by two", 1, 244, "C8 00 3C" + ramp(60) + "C9 00 40" + ramp(64), "refused 11 244"),
+    ("one byte too long for file by two, the second for sname as well", 3, 244, "C8 00 3C" + ramp(60) + "C9 00 40" + ramp(64),
+     "refused 11 244"),
+
+    # Plan 2.
+    *every_permission("sname full", 244, FILLS_SNAME, "refused 11 244",
+                      "plan 1 | options 34 01 01 FF | file C9 3D" + ramp(61) + "FF zeros 64 | accepted 2",
+                      "plan 2 | options 34 01 02 FF | sname " + FULL_SNAME + " | accepted 2",
+                      "plan 1 | options 34 01 01 FF | file C9 3D" + ramp(61) + "FF zeros 64 | accepted 2"),
+    *every_permission("one byte too long for sname", 244, "C9 00 3E" + ramp(62), "refused 11 244",
+                      "plan 1 | options 34 01 01 FF | file C9 3E" + ramp(62) + "FF zeros 63 | accepted 2", "refused 11 244",
+                      "plan 1 | options 34 01 01 FF | file C9 3E" + ramp(62) + "FF zeros 63 | accepted 2"),
+    ("sname full by two", 2, 244, "C8 00 1E" + ramp(30) + "C9 00 1D" + ramp(29),
+     "plan 2 | options 34 01 02 FF | sname C8 1E" + ramp(30) + "C9 1D" + ramp(29) + "FF zeros 0 | accepted 3"),
+    ("one byte too long for sname by two", 2, 244, "C8 00 1E" + ramp(30) + "C9 00 1E" + ramp(30), "refused 11 244"),
+    ("beside 52: just fits, sname full", 2, 250, LEASE + FILLS_SNAME,
+     "plan 2 | options 34 01 02 33 04 00 00 0E 10 FF zeros 0 | sname " + FULL_SNAME + " | accepted 3"),
+    ("beside 52: one byte short, no room in sname", 2, 249, LEASE + FILLS_SNAME, "refused 11 249"),
+    ("beside 52: one byte short, both fill sname", 2, 249, LEASE + "C9 00 37" + ramp(55),
+     "plan 2 | options 34 01 02 FF zeros 5 | sname 33 04 00 00 0E 10 C9 37" + ramp(55) + "FF zeros 0 | accepted 3"),
+    ("beside 52: one byte short, both one byte too long for sname", 2, 249, LEASE + "C9 00 38" + ramp(56), "refused 11 249"),
+
+    # Plan 3.
+    *every_permission("file and sname full", 244, FILLS_FILE + FILLS_SNAME, "refused 11 244", "refused 11 244", "refused 11 244",
+                      "plan 3 | options 34 01 03 FF zeros 0 | file " + FULL_FILE + " | sname " + FULL_SNAME + " | accepted 3"),
+    ("file full, one byte too long for sname", 3, 244, FILLS_FILE + "C9 00 3E" + ramp(62), "refused 11 244"),
+    ("one byte too long for file, sname's would fit", 3, 244, "C8 00 7E" + ramp(126) + FILLS_SNAME, "refused 11 244"),
+    ("sname's record first: file holds both no more", 3, 244, FILLS_SNAME + FILLS_FILE, "refused 11 244"),
+    ("all three full", 3, 250, LEASE + FILLS_FILE + FILLS_SNAME,
+     "plan 3 | options 34 01 03 33 04 00 00 0E 10 FF zeros 0 | file " + FULL_FILE + " | sname " + FULL_SNAME + " | accepted 4"),
+    ("all three full, less one byte of options", 3, 249, LEASE + FILLS_FILE + FILLS_SNAME, "refused 11 249"),
+    ("beside 52: one byte short, file and sname full", 3, 249, LEASE + "C8 00 77" + ramp(119) + FILLS_SNAME,
+     "plan 3 | options 34 01 03 FF zeros 5 | file 33 04 00 00 0E 10 C8 77" + ramp(119) + "FF zeros 0 | sname " + FULL_SNAME
+     + " | accepted 4"),
+    ("the last that fits file: plan 1", 3, 244, "C8 00 64" + ramp(100) + "C9 00 17" + ramp(23),
+     "plan 1 | options 34 01 01 FF | file C8 64" + ramp(100) + "C9 17" + ramp(23) + "FF zeros 0 | accepted 3"),
+    ("one byte longer goes to sname: plan 3", 3, 244, "C8 00 64" + ramp(100) + "C9 00 18" + ramp(24),
+     "plan 3 | options 34 01 03 FF | file C8 64" + ramp(100) + "FF zeros 25 | sname C9 18" + ramp(24) + "FF zeros 37 | accepted 3"),
+    ("the same with permission 1", 1, 244, "C8 00 64" + ramp(100) + "C9 00 18" + ramp(24), "refused 11 244"),
+    ("the same with permission 2", 2, 244, "C8 00 64" + ramp(100) + "C9 00 18" + ramp(24), "refused 11 244"),
+    ("sname full by two, file full", 3, 244, FILLS_FILE + "C9 00 1E" + ramp(30) + "CA 00 1D" + ramp(29),
+     "plan 3 | options 34 01 03 FF | file " + FULL_FILE + " | sname C9 1E" + ramp(30) + "CA 1D" + ramp(29)
+     + "FF zeros 0 | accepted 4"),
+    ("one byte too long for sname by two, file full", 3, 244, FILLS_FILE + "C9 00 1E" + ramp(30) + "CA 00 1E" + ramp(30),
+     "refused 11 244"),
+
+    # No going back, no splitting.
+    ("a small record stays behind the large one, in file", 1, 260, TYPE + "C8 00 1E" + ramp(30) + DOMAIN,
+     "plan 1 | options 34 01 01 35 01 05 FF zeros 13 | file C8 1E" + ramp(30) + "0F 01 61 FF zeros 92 | accepted 4"),
+    ("a small record stays behind the large one, in sname", 2, 260, TYPE + "C8 00 1E" + ramp(30) + DOMAIN,
+     "plan 2 | options 34 01 02 35 01 05 FF zeros 13 | sname C8 1E" + ramp(30) + "0F 01 61 FF zeros 28 | accepted 4"),
+    ("not back to file or options", 3, 260, TYPE + "C8 00 64" + ramp(100) + "C9 00 18" + ramp(24) + DOMAIN,
+     "plan 3 | options 34 01 03 35 01 05 FF zeros 13 | file C8 64" + ramp(100) + "FF zeros 25 | sname C9 18" + ramp(24)
+     + "0F 01 61 FF zeros 34 | accepted 5"),
+    ("it would fit options alone", 1, 260, TYPE + "C8 00 7B" + ramp(123) + DOMAIN, "refused 11 260"),
+    ("it would fit options, and goes to sname", 3, 260, TYPE + "C8 00 7B" + ramp(123) + DOMAIN,
+     "plan 3 | options 34 01 03 35 01 05 FF zeros 13 | file C8 7B" + ramp(123) + "FF zeros 2 | sname 0F 01 61 FF zeros 60"
+     " | accepted 4"),
+    ("it would fit options alone, sname has one byte left", 3, 260, FILLS_FILE + "C9 00 3C" + ramp(60) + DOMAIN, "refused 11 260"),
+    ("it would fit file alone", 3, 260, "C8 00 64" + ramp(100) + FILLS_SNAME + DOMAIN, "refused 11 260"),
+    ("order decides: small, large", 1, 250, LEASE + FILLS_FILE,
+     "plan 1 | options 34 01 01 33 04 00 00 0E 10 FF | file " + FULL_FILE + " | accepted 3"),
+    ("order decides: large, small", 1, 250, FILLS_FILE + LEASE, "refused 11 250"),
+    ("order decides: large, small, with sname", 3, 250, FILLS_FILE + LEASE,
+     "plan 3 | options 34 01 03 FF zeros 6 | file " + FULL_FILE + " | sname 33 04 00 00 0E 10 FF zeros 57 | accepted 3"),
+    *every_permission("room enough, but in parts", 300, "C8 00 96" + ramp(150), "refused 11 300"),
+    *every_permission("one byte too long for file, room enough in parts", 260, "C8 00 7E" + ramp(126), "refused 11 260"),
+
+    # 1,472 bytes: 4 options of 257 bytes, and what is left.
+    *every_permission("1,472: full", 1472, "".join(record(c, ramp(255)) for c in (200, 201, 202, 203)) + "CC 00 C9" + ramp(201),
+                      "plan 0 | options " + "".join(option(c, ramp(255)) for c in (200, 201, 202, 203)) + "CC C9" + ramp(201)
+                      + "FF zeros 0 | accepted 5"),
+    *every_permission("1,472: one byte short", 1472,
+                      "".join(record(c, ramp(255)) for c in (200, 201, 202, 203)) + "CC 00 CA" + ramp(202), "refused 11 1472"),
+    ("1,472: full beside 52, file full", 1, 1472,
+     "".join(record(c, ramp(255)) for c in (203, 202, 201, 207)) + "CC 00 C6" + ramp(198) + FILLS_FILE,
+     "plan 1 | options 34 01 01" + "".join(option(c, ramp(255)) for c in (203, 202, 201, 207)) + "CC C6" + ramp(198)
+     + "FF zeros 0 | file " + FULL_FILE + " | accepted 7"),
+    ("1,472: one byte too long beside 52, file full", 1, 1472,
+     "".join(record(c, ramp(255)) for c in (203, 202, 201, 207)) + "CC 00 C7" + ramp(199) + FILLS_FILE, "refused 11 1472"),
+]
+
+CONTENT = [
+    # All data bytes are written, whatever they are.
+    ("zeros at the end of a text", 0, 246, "0C 00 03 61 62 00", "plan 0 | options 0C 03 61 62 00 FF zeros 0 | accepted 1"),
+    ("a text of zeros", 0, 300, "0F 00 02 00 00", "plan 0 | options 0F 02 00 00 FF zeros 55 | accepted 1"),
+    ("a text of one zero, in sname", 2, 244, "0F 00 01 00 42 00 01 61",
+     "plan 2 | options 34 01 02 FF | sname 0F 01 00 42 01 61 FF zeros 57 | accepted 3"),
+    ("255 and 0 as data", 0, 300, "C8 00 05 FF 00 FF FF 00", "plan 0 | options C8 05 FF 00 FF FF 00 FF zeros 52 | accepted 1"),
+    ("255 as data, in file", 1, 244, "C8 00 03 FF FF FF" + DOMAIN,
+     "plan 1 | options 34 01 01 FF | file C8 03 FF FF FF 0F 01 61 FF zeros 119 | accepted 3"),
+    ("data that looks like 52 and END", 1, 300, "2B 00 04 34 01 01 FF", "plan 0 | options 2B 04 34 01 01 FF FF zeros 53 | accepted 1"),
+    ("data that looks like a record", 0, 300, "2B 00 04 35 00 01 09", "plan 0 | options 2B 04 35 00 01 09 FF | accepted 1"),
+    ("an empty list at the end", 0, 243, "44 00 00", "plan 0 | options 44 00 FF zeros 0 | accepted 1"),
+    ("no data between two with data", 0, 300, TYPE + "44 00 00" + DOMAIN, "plan 0 | options 35 01 05 44 00 0F 01 61 FF | accepted 3"),
+    # The order is the sheet's.
+    ("tags falling", 0, 300, "FE 00 01 01 C8 00 00" + LEASE + DOMAIN + MASK,
+     "plan 0 | options FE 01 01 C8 00 33 04 00 00 0E 10 0F 01 61 01 04 FF FF FF 00 FF | accepted 5"),
+    ("neither rising nor falling, over three fields", 3, 247,
+     TYPE + "FE 00 64" + ramp(100) + BARE.replace("FE", "4D") + "02 00 04 FF FF F1 F0" + "C8 00 28" + ramp(40) + MASK,
+     "plan 3 | options 34 01 03 35 01 05 FF zeros 0 | file FE 64" + ramp(100) + "4D 00 02 04 FF FF F1 F0 FF zeros 17"
+     " | sname C8 28" + ramp(40) + "01 04 FF FF FF 00 FF zeros 15 | accepted 7"),
+    # What the buffer held makes no difference, and the header and unused fields keep it.
+    *[(f"buffer from {fill} on", 3, 250, TYPE, "plan 0 | options 35 01 05 FF zeros 6 | accepted 1", fill)
+      for fill in (0, 1, 119, 255)],  # from 119 on: the cookie's first byte is there
+    *[(f"buffer from {fill} on, file used", 1, 244, NAME, NAME_IN_FILE, fill) for fill in (0, 119, 148, 255)],
+    *[(f"buffer from {fill} on, sname used", 2, 244, NAME, NAME_IN_SNAME, fill) for fill in (0, 119, 212, 255)],
+    ("buffer from 0 on, refused", 0, 244, NAME, "refused 11 244", 0),
+    ("buffer from 255 on, refused", 3, 1472, "35 00 01 09", "refused 9 0", 255),
+]
+
+# A record's faults in the order 12, 10, 13, 7, 8, 9: each with its place, alone and beside the later ones.
+FAULTS = [
+    # 12
+    ("12: tag alone", 0, 300, "35", "refused 12 0"),
+    ("12: tag and half a length", 0, 300, "35 00", "refused 12 0"),
+    ("12: head alone", 0, 300, "35 00 01", "refused 12 0"),
+    ("12: one byte missing", 0, 300, "C8 00 05 01 02 03 04", "refused 12 0"),
+    ("12: length of one byte where two belong", 0, 300, "35 01 05", "refused 12 0"),
+    ("12: length low byte first", 0, 300, "35 01 00 05", "refused 12 0"),
+    ("12: 65,535", 3, 1472, "C8 FF FF", "refused 12 0"),
+    ("12: 65,535, some there", 3, 1472, "C8 FF FF" + ramp(300), "refused 12 0"),
+    ("12: 255, one byte missing", 0, 300, "C8 00 FF" + ramp(254), "refused 12 0"),
+    ("12: one byte left over", 0, 300, TYPE + "C8", "refused 12 4"),
+    ("12: two bytes left over", 0, 300, TYPE + "C8 00", "refused 12 4"),
+    ("12: zero left over", 0, 300, TYPE + "00", "refused 12 4"),
+    ("12: 255 left over is no END", 0, 300, TYPE + "FF", "refused 12 4"),
+    ("12: later record cut", 0, 300, TYPE + "C8 00 02 01", "refused 12 4"),
+    ("12: later record of 65,535", 0, 300, TYPE + LEASE + "C8 FF FF 01", "refused 12 11"),
+    ("12 before 10: tag 0 cut", 0, 300, "00 00 05 01", "refused 12 0"),
+    ("12 before 10: tag 255 cut", 0, 300, TYPE + "FF 00 01", "refused 12 4"),
+    ("12 before 10: tag 52 of 65,535", 0, 300, TYPE + "34 FF FF 01", "refused 12 4"),
+    ("12 before 13: 256, one byte missing", 0, 300, "C8 01 00" + ramp(255), "refused 12 0"),
+    ("12 before 7", 0, 300, TYPE + "35 00 02 05", "refused 12 4"),
+    ("12 before 8", 0, 300, MASK + "36 00 05 01 02 03 04", "refused 12 7"),
+    ("12 before 9", 0, 300, "0C 00 01 61 35 00 02 09", "refused 12 4"),
+    # 10
+    ("10: tag 0", 0, 300, "00 00 01 05", "refused 10 0"),
+    ("10: tag 0 without data", 0, 300, "00 00 00", "refused 10 0"),
+    ("10: tag 52, a right value", 3, 300, "34 00 01 01", "refused 10 0"),
+    ("10: tag 255", 0, 300, "FF 00 01 05", "refused 10 0"),
+    ("10: tag 0 later", 0, 300, TYPE + "00 00 00", "refused 10 4"),
+    ("10: tag 52 later", 1, 300, TYPE + LEASE + "34 00 01 01", "refused 10 11"),
+    ("10: tag 255 later", 0, 300, TYPE + "FF 00 00" + LEASE, "refused 10 4"),
+    ("10: tag 52 without data", 0, 300, "34 00 00", "refused 10 0"),
+    ("10 before 13: tag 0", 0, 300, "00 01 00" + ramp(256), "refused 10 0"),
+    ("10 before 13: tag 52", 0, 300, TYPE + "34 01 00" + ramp(256), "refused 10 4"),
+    ("10 before 13: tag 255", 0, 300, "FF 01 00" + ramp(256), "refused 10 0"),
+    ("10 before 8: tag 52 of two bytes", 0, 300, "34 00 02 01 01", "refused 10 0"),
+    ("10 before 9: tag 52 is 4", 0, 300, "34 00 01 04", "refused 10 0"),
+    # 13
+    ("13: 256 bytes", 3, 1472, "C8 01 00" + ramp(256), "refused 13 0"),
+    ("13: 257 bytes", 3, 1472, "C8 01 01" + ramp(257), "refused 13 0"),
+    ("13: 512 bytes, low byte 0", 3, 1472, "C8 02 00" + ramp(512), "refused 13 0"),
+    ("13: 4,093 bytes, all of the sheet", 3, 1472, "C8 0F FD" + ramp(4093), "refused 13 0"),
+    ("12: 4,094 bytes, one more than the sheet", 3, 1472, "C8 0F FE" + ramp(4093), "refused 12 0"),
+    ("13: later record", 3, 1472, TYPE + "C8 01 00" + ramp(256) + LEASE, "refused 13 4"),
+    ("13: a text of 256 bytes", 3, 1472, TYPE + LEASE + "0C 01 00" + "61" * 256, "refused 13 11"),
+    ("13: 260 bytes, a multiple of 4", 3, 1472, "03 01 04" + "01" * 260, "refused 13 0"),
+    ("13 before 7", 3, 1472, BARE + "FE 01 00" + ramp(256), "refused 13 3"),
+    ("13 before 8", 3, 1472, "01 01 00" + "01" * 256, "refused 13 0"),
+    ("13 before 8, where 8 would see 1", 3, 1472, "13 01 01" + "01" * 257, "refused 13 0"),
+    ("13 before 9", 3, 1472, "21 01 00" + "00" * 256, "refused 13 0"),
+    # 7
+    ("7: at once", 0, 300, TYPE + TYPE, "refused 7 4"),
+    ("7: other data", 0, 300, TYPE + "35 00 01 02", "refused 7 4"),
+    ("7: a code without a row", 0, 300, BARE + BARE, "refused 7 3"),
+    ("7: other lengths", 0, 300, "C8 00 00 C8 00 02 01 02", "refused 7 3"),
+    ("7: two between", 0, 300, TYPE + LEASE + DOMAIN + TYPE, "refused 7 15"),
+    ("7: the second of three", 0, 300, TYPE + TYPE + TYPE, "refused 7 4"),
+    ("7: the first repetition of two", 0, 300, TYPE + DOMAIN + DOMAIN + TYPE, "refused 7 8"),
+    ("7: an empty list", 0, 300, "44 00 00 44 00 00", "refused 7 3"),
+    ("7: 63 and 64 are not 127 and 128", 0, 300, "3F 00 00 40 00 01 61 7F 00 00 80 00 00 BF 00 00 C0 00 00 FE 00 00 3E 00 00",
+     "plan 0 | options 3F 00 40 01 61 7F 00 80 00 BF 00 C0 00 FE 00 3E 00 FF | accepted 8"),
+    ("7: 64 again", 0, 300, "40 00 01 61 80 00 00 C0 00 00 40 00 01 61", "refused 7 10"),
+    ("7: 128 again", 0, 300, "80 00 00 40 00 01 61 80 00 00", "refused 7 7"),
+    ("7 before 8: length 2", 0, 300, TYPE + "35 00 02 05 05", "refused 7 4"),
+    ("7 before 8: length 0", 0, 300, TYPE + "35 00 00", "refused 7 4"),
+    ("7 before 9", 0, 300, TYPE + "35 00 01 09", "refused 7 4"),
+    # 8, 9: see KINDS for each code
+    ("8: first", 0, 300, "35 00 02 05 00", "refused 8 0"),
+    ("8: later", 0, 300, LEASE + "35 00 02 05 00", "refused 8 7"),
+    ("9: first", 0, 300, "35 00 01 09", "refused 9 0"),
+    ("9: later", 0, 300, LEASE + DOMAIN + "35 00 01 00", "refused 9 11"),
+    ("8 before 9", 0, 300, "35 00 02 00 00", "refused 8 0"),
+    ("8 before 9, later", 0, 300, TYPE + "21 00 04 00 00 00 00", "refused 8 4"),
+
+    # Two faulty records: the first counts, whatever its number.
+    ("9, then 12", 0, 300, "35 00 01 09 C8", "refused 9 0"),
+    ("8, then 12", 0, 300, "35 00 00 C8 00", "refused 8 0"),
+    ("7, then 12", 0, 300, BARE + BARE + "C8 FF FF", "refused 7 3"),
+    ("13, then 12", 3, 1472, "C8 01 00" + ramp(256) + "C9", "refused 13 0"),
+    ("10, then 12", 0, 300, "34 00 01 01 35", "refused 10 0"),
+    ("9, then 10", 0, 300, "35 00 01 09 00 00 00", "refused 9 0"),
+    ("8, then 10", 0, 300, "01 00 03 01 02 03 FF 00 00", "refused 8 0"),
+    ("7, then 10", 0, 300, TYPE + TYPE + "00 00 00", "refused 7 4"),
+    ("13, then 10", 3, 1472, "C8 01 00" + ramp(256) + "00 00 00", "refused 13 0"),
+    ("9, then 13", 3, 1472, "2E 00 01 03 C8 01 00" + ramp(256), "refused 9 0"),
+    ("8, then 13", 3, 1472, TYPE + "3D 00 01 01 C8 01 00" + ramp(256), "refused 8 4"),
+    ("7, then 13", 3, 1472, TYPE + TYPE + "C8 01 00" + ramp(256), "refused 7 4"),
+    ("9, then 7", 0, 300, TYPE + "2E 00 01 03" + TYPE, "refused 9 4"),
+    ("8, then 7", 0, 300, TYPE + "2E 00 00" + TYPE, "refused 8 4"),
+    ("9, then 7 of the same tag", 0, 300, "35 00 01 09" + TYPE, "refused 9 0"),
+    ("9, then 8", 0, 300, "35 00 01 09 2E 00 00", "refused 9 0"),
+    ("8, then 9", 0, 300, "2E 00 00 35 00 01 09", "refused 8 0"),
+    ("10 twice", 0, 300, TYPE + "FF 00 00 00 00 00", "refused 10 4"),
+]
+
+# 14 comes after every record, and before 11.
+ROUTER_FIRST = [
+    ("14: 3, then 1", 0, 300, ROUTER + MASK, "refused 14 0"),
+    ("14: one before them", 0, 300, TYPE + ROUTER + MASK, "refused 14 4"),
+    ("14: one between them", 0, 300, TYPE + LEASE + ROUTER + DOMAIN + MASK, "refused 14 11"),
+    ("14: one behind them", 3, 300, ROUTER + MASK + TYPE, "refused 14 0"),
+    ("14: two routers", 0, 300, "03 00 08 0A 00 00 01 0A 00 00 02" + LEASE + MASK, "refused 14 0"),
+    ("1, then 3", 0, 300, MASK + ROUTER, "plan 0 | options 01 04 FF FF FF 00 03 04 0A 00 00 01 FF | accepted 2"),
+    ("1, others, 3", 0, 300, MASK + TYPE + ROUTER,
+     "plan 0 | options 01 04 FF FF FF 00 35 01 05 03 04 0A 00 00 01 FF | accepted 3"),
+    ("1 in options, 3 in file", 1, 250, MASK + ROUTER,
+     "plan 1 | options 34 01 01 01 04 FF FF FF 00 FF zeros 0 | file 03 04 0A 00 00 01 FF zeros 121 | accepted 3"),
+    ("3 alone", 0, 300, ROUTER, "plan 0 | options 03 04 0A 00 00 01 FF | accepted 1"),
+    ("3 without 1", 0, 300, TYPE + ROUTER + LEASE, "plan 0 | options 35 01 05 03 04 0A 00 00 01 33 04 00 00 0E 10 FF | accepted 3"),
+    ("1 alone", 0, 300, MASK, "plan 0 | options 01 04 FF FF FF 00 FF | accepted 1"),
+    ("4 before 1", 0, 300, "04 00 04 0A 00 00 01" + MASK, "plan 0 | options 04 04 0A 00 00 01 01 04 FF FF FF 00 FF | accepted 2"),
+    ("data 3 and 1 are no tags", 0, 300, "2B 00 02 03 01" + MASK, "plan 0 | options 2B 02 03 01 01 04 FF FF FF 00 FF | accepted 2"),
+    ("12 before 14", 0, 300, ROUTER + MASK + "C8", "refused 12 14"),
+    ("12 before 14: tag 1 cut", 0, 300, ROUTER + "01 00 04 FF FF FF", "refused 12 7"),
+    ("10 before 14", 0, 300, ROUTER + MASK + "34 00 01 01", "refused 10 14"),
+    ("13 before 14", 3, 1472, ROUTER + MASK + "C8 01 00" + ramp(256), "refused 13 14"),
+    ("7 before 14: 3 again", 0, 300, ROUTER + MASK + ROUTER, "refused 7 14"),
+    ("7 before 14: 1 again", 0, 300, ROUTER + MASK + MASK, "refused 7 14"),
+    ("8 before 14: tag 1 broken", 0, 300, ROUTER + "01 00 03 FF FF FF", "refused 8 7"),
+    ("8 before 14: tag 3 broken", 0, 300, "03 00 03 0A 00 00" + MASK, "refused 8 0"),
+    ("9 before 14", 0, 300, ROUTER + MASK + "35 00 01 09", "refused 9 14"),
+    ("9 between 3 and 1", 0, 300, ROUTER + "35 00 01 09" + MASK, "refused 9 7"),
+    ("14 before 11: no room for END", 0, 240, ROUTER + MASK, "refused 14 0"),
+    ("14 before 11: one byte short", 0, 252, ROUTER + MASK, "refused 14 0"),
+    ("14 before 11: with every plan", 3, 241, TYPE + ROUTER + MASK, "refused 14 4"),
+    ("11 where 14 is not: 1, then 3, one byte short", 0, 252, MASK + ROUTER, "refused 11 252"),
+    *[(f"{number} before 11", 0, 240, sheet, f"refused {number} {place}") for number, place, sheet in (
+        (12, 0, "35"), (10, 0, "34 00 01 01"), (13, 0, "C8 01 00" + ramp(256)), (7, 4, TYPE + TYPE), (8, 0, "35 00 00"),
+        (9, 0, "35 00 01 00"))],
+]
+
+# 15 records of 258 bytes: 3,870 of a sheet's 4,096.
+LONG = "".join(record(c, ramp(255)) for c in range(200, 215))
+SHEETS = [
+    ("4,096 bytes, right but for room", 3, 1472, LONG + "D7 00 DF" + ramp(223), "refused 11 1472"),
+    ("4,096 bytes, a small buffer", 0, 241, LONG + "D7 00 DF" + ramp(223), "refused 11 241"),
+    ("4,096 bytes, one left over", 3, 1472, LONG + "D7 00 DE" + ramp(222) + "35", "refused 12 4095"),
+    ("4,096 bytes, two left over", 3, 1472, LONG + "D7 00 DD" + ramp(221) + "35 00", "refused 12 4094"),
+    ("4,096 bytes, the last one byte too long", 3, 1472, LONG + "D7 00 E0" + ramp(223), "refused 12 3870"),
+    ("4,096 bytes, tag 0 at the end", 3, 1472, LONG + "D7 00 DC" + ramp(220) + "00 00 00", "refused 10 4093"),
+    # 14 of the records take 3,612
+    ("4,096 bytes, 256 of data at the end", 3, 1472,
+     "".join(record(c, ramp(255)) for c in range(200, 214)) + "D7 00 DE" + ramp(222) + "D8 01 00" + ramp(256), "refused 13 3837"),
+    ("4,096 bytes, met again at the end", 3, 1472, LONG + "C8 00 DF" + ramp(223), "refused 7 3870"),
+    ("4,096 bytes, 8 at the end", 3, 1472, LONG + "D7 00 DB" + ramp(219) + "01 00 01 FF", "refused 8 4092"),
+    ("4,096 bytes, 9 at the end", 3, 1472, LONG + "D7 00 DB" + ramp(219) + "35 00 01 09", "refused 9 4092"),
+    ("4,096 bytes, 3 first and 1 last", 3, 1472, ROUTER + LONG + "D7 00 D1" + ramp(209) + MASK, "refused 14 0"),
+    ("4,096 bytes, 1 first and 3 last", 3, 1472, MASK + LONG + "D7 00 D1" + ramp(209) + ROUTER, "refused 11 1472"),
+    ("4,095 bytes", 3, 1472, LONG + "D7 00 DE" + ramp(222), "refused 11 1472"),
+    ("4,096 zeros", 3, 1472, "00" * 4096, "refused 10 0"),
+    ("4,097 bytes, else right", 3, 1472, LONG + "D7 00 E0" + ramp(224), "refused 16 4097"),
+    ("4,097 bytes, right up to 4,096", 3, 1472, LONG + "D7 00 DF" + ramp(223) + "C8", "refused 16 4097"),
+    ("4,097 zeros: 16 before 10", 0, 300, "00" * 4097, "refused 16 4097"),
+    ("4,097 of 255: 16 before 12", 0, 300, "FF" * 4097, "refused 16 4097"),
+    ("16 before 13, 14 and 11", 0, 240, ROUTER + MASK + "C8 0F F0" + ramp(4080), "refused 16 4097"),
+    ("4,098 bytes", 3, 1472, LONG + "D7 00 E1" + ramp(225), "refused 16 4098"),
+    ("5,000 bytes", 3, 300, "C8 13 85" + ramp(4997), "refused 16 5000"),
+
+    # 1, 2, 15, 16, then the records.
+    ("1 before 15", 4, 239, TYPE, "refused 1 239"),
+    ("1 before 16", 0, 239, "00" * 4097, "refused 1 239"),
+    ("1 before 15 and 16", 255, 0, "00" * 4097, "refused 1 0"),
+    ("1 before a record's fault", 0, 239, "35", "refused 1 239"),
+    ("2 before 15", 4, 1473, TYPE, "refused 2 1473"),
+    ("2 before 16", 0, 1473, "00" * 4097, "refused 2 1473"),
+    ("2 before 15 and 16", 4, 1500, "00" * 4097, "refused 2 1500"),
+    ("2 before a record's fault", 3, 1473, "35 00 01 09", "refused 2 1473"),
+    ("15 before 16", 4, 300, "00" * 4097, "refused 15 0"),
+    ("15 before a record's fault", 4, 300, TYPE + "35", "refused 15 0"),
+    ("15 before 14", 255, 300, ROUTER + MASK, "refused 15 0"),
+    ("15 before 11", 4, 240, EMPTY, "refused 15 0"),
+    ("2 before 14", 3, 1473, ROUTER + MASK, "refused 2 1473"),
+]
+
+# The shortest right data for each code that has a row; in code order, so that 1 stands before 3.
+SHORTEST = {c: "01020304" for c in ADDRESS + ADDRESSES + UNSIGNED32 + [2]}
+SHORTEST.update({c: "01" for c in FLAG + TEXT + OPAQUE + [23, 37, 46, 53]})
+SHORTEST.update({13: "0102", 22: "0240", 26: "0044", 57: "0240", 25: "0044", 61: "0102", 68: "",
+                 21: "0102030405060708", 33: "0102030405060708"})
+ROWS = sorted(SHORTEST)
+# With these the options take 349 bytes; 178 codes without a row and without data take 356. Beside 52 and END 1,228 bytes are to
+# be had, 523 more, which 62, 63 and 77 take as data. 253 and 254 are for file and sname.
+MOST = {**SHORTEST, **{c: "" for c in UNKNOWN[3:-2]}, 62: ramp(255), 63: ramp(255), 77: ramp(13)}
+MOST_SHEET = "".join(record(c, MOST[c]) for c in sorted(MOST))
+MOST_OPTIONS = "".join(option(c, MOST[c]) for c in sorted(MOST))
+MANY = [
+    # 253 records; their options fill 1,228 + 127 + 63 bytes, and a record takes one more each: 1,671. No longer sheet is accepted.
+    *every_permission("every tag, every byte of all fields: the longest sheet that is accepted", 1472,
+                      MOST_SHEET + "FD 00 7D" + ramp(125) + "FE 00 3D" + ramp(61),
+                      "refused 11 1472", "refused 11 1472", "refused 11 1472",
+                      "plan 3 | options 34 01 03" + MOST_OPTIONS + "FF zeros 0 | file FD 7D" + ramp(125)
+                      + "FF zeros 0 | sname FE 3D" + ramp(61) + "FF zeros 0 | accepted 254"),
+    ("every tag, one byte more in sname", 3, 1472, MOST_SHEET + "FD 00 7D" + ramp(125) + "FE 00 3E" + ramp(62), "refused 11 1472"),
+    ("every tag, one byte more in file", 3, 1472, MOST_SHEET + "FD 00 7E" + ramp(126) + "FE 00 3D" + ramp(61), "refused 11 1472"),
+    ("every tag, one byte less of options", 3, 1471, MOST_SHEET + "FD 00 7D" + ramp(125) + "FE 00 3D" + ramp(61), "refused 11 1471"),
+    ("every tag, one again at the end", 3, 1472, MOST_SHEET + "FD 00 00 FE 00 00 FD 00 00", "refused 7 1485"),
+    ("every code without a row, no data", 0, 601, "".join(record(c, "") for c in UNKNOWN),
+     "plan 0 | options " + "".join(option(c, "") for c in UNKNOWN) + "FF zeros 0 | accepted 180"),
+    ("every code without a row, 4 bytes", 0, 1321, "".join(record(c, "00FF00FF") for c in UNKNOWN),
+     "plan 0 | options " + "".join(option(c, "00FF00FF") for c in UNKNOWN) + "FF zeros 0 | accepted 180"),
+    ("codes without a row, 0 to 46 bytes", 0, 1416, "".join(record(100 + n, ramp(n)) for n in range(47)),
+     "plan 0 | options " + "".join(option(100 + n, ramp(n)) for n in range(47)) + "FF zeros 0 | accepted 47"),
+    ("codes without a row, some greater lengths", 0, 1246, "".join(record(n, ramp(n)) for n in (100, 127, 128, 129, 254))
+     + "FD 00 FF" + ramp(255), "plan 0 | options " + "".join(option(n, ramp(n)) for n in (100, 127, 128, 129, 254))
+     + "FD FF" + ramp(255) + "FF zeros 0 | accepted 6"),
+    ("every code with a row", 0, 590, "".join(record(c, SHORTEST[c]) for c in ROWS),
+     "plan 0 | options " + "".join(option(c, SHORTEST[c]) for c in ROWS) + "FF zeros 0 | accepted 73"),
+    ("every code with a row, 1 last", 0, 590, "".join(record(c, SHORTEST[c]) for c in reversed(ROWS)), "refused 14 401"),
+    ("the longest address lists", 0, 1257, "".join(record(c, ramp(252)) for c in (3, 41, 68, 76)),
+     "plan 0 | options " + "".join(option(c, ramp(252)) for c in (3, 41, 68, 76)) + "FF zeros 0 | accepted 4"),
+    ("the longest text, opaque and 16-bit list", 0, 1011, record(12, "61" * 255) + record(61, ramp(255)) + record(25, "0044" * 127),
+     "plan 0 | options 0C FF" + "61" * 255 + "3D FF" + ramp(255) + "19 FE" + "0044" * 127 + "FF zeros 0 | accepted 3"),
+]
+
+# Document 01, "The kinds, by code": codes, right data, data of a wrong length (8), data of a wrong value (9).
+KINDS = [
+    ("one address", ADDRESS, ["00000000", "FFFFFFFF"], ["", "01", "010203", "0102030405", "0102030405060708"], []),
+    ("address list", ADDRESSES, ["01020304", "00" * 8], ["", "01", "010203", "0102030405", "010203040506"], []),
+    ("address list that may be empty", [68], ["", "01020304", "0102030405060708"], ["01", "010203", "0102030405"], []),
+    ("pairs", [21], ["00" * 8, "01" * 16], ["", "01020304", "01" * 7, "01" * 9, "01" * 12], []),
+    ("pairs, no destination 0.0.0.0", [33], ["0A00000100000000", "00000001010203040000000200000000", "01000000" * 4],
+     ["", "01020304", "01" * 7, "01" * 9, "01" * 12, "00" * 4, "00" * 12],
+     ["00" * 8, "000000000A000001", "0A0000010A000002000000000A000001", "000000000A0000020A0000010A000001"]),
+    ("flag", FLAG, ["00", "01"], ["", "0001", "0202"], ["02", "FF"]),
+    ("time to live", [23, 37], ["01", "FF"], ["", "0101", "0000"], ["00"]),
+    ("node type", [46], ["01", "02", "04", "08"], ["", "0101", "0000"], ["00", "03", "05", "06", "07", "09", "10", "FF"]),
+    ("message type", [53], ["01", "02", "03", "04", "05", "06", "07", "08"], ["", "0101", "0000"], ["00", "09", "FF"]),
+    ("16-bit", [13], ["0000", "FFFF"], ["", "01", "010101", "00000000"], []),
+    ("16-bit, at least 576", [22, 57], ["0240", "FFFF"], ["", "03", "030303", "00000000"], ["0000", "0044", "023F"]),
+    ("16-bit, at least 68", [26], ["0044", "0100", "FFFF"], ["", "44", "004400", "00000000"], ["0000", "0043"]),
+    ("16-bit list", [25], ["0044", "00440044", "00FF0100FFFF", "7FFF8000"], ["", "44", "004400", "000000"],
+     ["0000", "0043", "00450044", "004400450044", "010000440200", "00430044", "80007FFF"]),
+    ("unsigned", UNSIGNED32, ["00000000", "FFFFFFFF"], ["", "010203", "0102030405", "0102030405060708"], []),
+    ("signed", [2], ["00000000", "7FFFFFFF", "80000000", "FFFFFFFF"], ["", "010203", "0102030405"], []),
+    ("text", TEXT, ["61", "00", "610000", "FF80C328"], [""], []),
+    ("opaque", OPAQUE, ["00", "010203", "000000"], [""], []),
+    ("opaque of two or more", [61], ["0102", "000000"], ["", "01"], []),
+]
+
+
+def kind_cases():
+    """For each row: all codes with right data, in the buffer that they fill; then each code with wrong data, the earlier ones right."""
+    cases = []
+    for name, codes, right, wrong_length, wrong_value in KINDS:
+        for data in right:
+            size = len(bytes.fromhex(data))
+            cases.append((f"{name}: {data}", 0, 241 + len(codes) * (2 + size), "".join(record(c, data) for c in codes),
+                          "plan 0 | options " + "".join(option(c, data) for c in codes) + f"FF zeros 0 | accepted {len(codes)}"))
+        step = 3 + len(bytes.fromhex(right[0]))
+        for number, wrong in ((8, wrong_length), (9, wrong_value)):
+            for data in wrong:
+                for i, code in enumerate(codes):
+                    before = "".join(record(c, right[0]) for c in codes[:i])
+                    cases.append((f"{name}: {code} with {data}", 0, 600, before + record(code, data), f"refused {number} {i * step}"))
+    return cases
+
+
+def main():
+    hand = OWN_CASES + LENGTHS + PERMISSIONS + PLANS + CONTENT + FAULTS + ROUTER_FIRST + SHEETS + MANY
+    cases = hand + kind_cases()
+    given, printed = b"", []
+    for reason, permission, length, text, expected, *first in cases:
+        sheet, fill = bytes.fromhex(text), first[0] if first else FILL
+        given += bytes([permission]) + length.to_bytes(2, "big") + bytes([fill]) + len(sheet).to_bytes(2, "big") + sheet
+        printed += lines(length, fill, expected) + ["-"]
+    OUT.mkdir(parents=True, exist_ok=True)
+    (OUT / "stdin").write_bytes(given)
+    (OUT / "stdout").write_text("\n".join(printed) + "\n")
+    heads = Counter(tuple(case[4].split()[:2]) for case in cases)
+    tally = sorted(heads.items(), key=lambda item: (item[0][0], int(item[0][1])))
+    print(f"{len(cases)} cases, {len(hand)} of them one by one: " + ", ".join(f"{w} {n}: {count}" for (w, n), count in tally))
+
+
+if __name__ == "__main__":
+    main()

@@ -211,9 +211,9 @@ pub fn data(m: &[u8], code: u8) -> &[u8]
 }
 
 // The text part of an option that was met, or not. A text of length 0, which is refused, has an empty part as well.
-fn text_in(m: &[u8], known: [u64; 4], code: u8, w: Walked) -> Extent
+fn text_in(m: &[u8], set: [u64; 4], code: u8, w: Walked) -> Extent
     requires { ⌜ (w .offset ≤ 65536) × ((w .field ≡ 0 → ⊥) → placeOf (hitOf w) + 2 + w .len ≤ length (now m)) ⌝ }
-    ensures { λ r. ⌜ extentOf r ≡ textIn (foundIn (now (m .entry)) (marked known) code (hitOf w)) ⌝ }
+    ensures { λ r. ⌜ extentOf r ≡ textIn (foundIn (now (m .entry)) (marked set) code (hitOf w)) ⌝ }
 {
     if w.field == 0 {
         return Extent { start: 0, len: 0 };
@@ -221,7 +221,7 @@ fn text_in(m: &[u8], known: [u64; 4], code: u8, w: Walked) -> Extent
     if kinds::kind(code) != kinds::TEXT {
         return Extent { start: 0, len: 0 };
     }
-    if !codeset::contains(known, code) {
+    if !codeset::contains(set, code) {
         return Extent { start: 0, len: 0 };
     }
     let start = place_of(w) + 2;

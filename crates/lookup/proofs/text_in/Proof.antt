@@ -24,7 +24,7 @@ returns c =
     let a = c .before .before .before .args in
     let m = a .m .now in
     let h = hitOf (a .w) in
-    text-absent m (marked (a .known)) (a .code) h (c .if1 .taken)
+    text-absent m (marked (a .set)) (a .code) h (c .if1 .taken)
 
 kind-requires : tie.Need-kind-requires
 kind-requires c κs = search needs
@@ -34,7 +34,7 @@ returns-2 c =
     let a = c .before .before .before .before .before .args in
     let m = a .m .now in
     let h = hitOf (a .w) in
-    text-else m (marked (a .known)) (a .code) h (c .before .before .if1 .left) (λ e. c .if2 .taken (c .before .kind .ensures ∙ e))
+    text-else m (marked (a .set)) (a .code) h (c .before .before .if1 .left) (λ e. c .if2 .taken (c .before .kind .ensures ∙ e))
 
 contains-requires : tie.Need-contains-requires
 contains-requires c κs = search needs
@@ -44,7 +44,7 @@ returns-3 c =
     let a = c .before .before .before .before .before .before .before .args in
     let m = a .m .now in
     let h = hitOf (a .w) in
-    text-unmarked m (marked (a .known)) (a .code) h (c .before .before .before .before .if1 .left) (sym (c .before .contains .ensures) ∙ not-true (c .before .contains .result) (c .if3 .taken))
+    text-unmarked m (marked (a .set)) (a .code) h (c .before .before .before .before .if1 .left) (sym (c .before .contains .ensures) ∙ not-true (c .before .contains .result) (c .if3 .taken))
 
 place-of-requires : tie.Need-place-of-requires
 place-of-requires c κs = search needs
@@ -80,7 +80,7 @@ returns-4 c =
     let h = hitOf (a .w) in
     let k = c .before .before .before .before .before .before .before .before .kind in
     rw (c .clip .ensures, clip-is _ _, c .before .text-len .ensures, add-sub-cancel-left, c .before .before .before .wide .ensures .0, c .before .before .before .before .place-of .ensures .0)
-    (text-found m (marked (a .known)) (a .code) h (c .before .before .before .before .before .before .before .before .before .if1 .left) (is-text (a .code) (k .result) (c .before .before .before .before .before .before .before .if2 .left) (row (kindOf (a .code)) (k .result) (k .ensures) (λ z. omega (arith, c .before .before .before .before .before .before .before .if2 .left))))
+    (text-found m (marked (a .set)) (a .code) h (c .before .before .before .before .before .before .before .before .before .if1 .left) (is-text (a .code) (k .result) (c .before .before .before .before .before .before .before .if2 .left) (row (kindOf (a .code)) (k .result) (k .ensures) (λ z. omega (arith, c .before .before .before .before .before .before .before .if2 .left))))
     (sym (c .before .before .before .before .before .before .contains .ensures) ∙ not-false (c .before .before .before .before .before .before .contains .result) (c .before .before .before .before .before .if3 .left)))
 
 pub text-in-spec : {M : Type 1} → statement M

@@ -1,0 +1,268 @@
+/*
+ * Stands for the box's service: reads the settings in a DHCP message, and makes an offer from a settings sheet.
+ *
+ *   service read MESSAGE [CODE...]                 CODE...: the codes that the meter knows. None given: all
+ *   service offer SHEET SIZE PERMISSION [MESSAGE]  SIZE: bytes of the message; MESSAGE: a file to write it to
+ *
+ * Exit status: 0 done, 1 refused, 2 wrong usage, or a file that cannot be read or written.
+ */
+#include "dhcpopt.h"
+
+#include <ctype.h>
+#include <errno.h>
+#include <inttypes.h>
+#include <stdbool.h>
+#include <stdio.h>
+#include <stdlib.h>
+#include <string.h>
+
+enum { DONE = 0, REFUSED = 1, FAILED = 2 };
+
+enum { TIME_OFFSET = 2, ROUTER = 3, HOST_NAME = 12, DOMAIN_NAME = 15, LEASE_TIME = 51, TFTP_SERVER_NAME = 66 };
+
+static const struct {
+    uint8_t code;
+    const char *name, *unit;
+} SETTINGS[] = {
+    {ROUTER, "router", ""},
+    {TIME_OFFSET, "clock offset", " s east of UTC"},
+    {LEASE_TIME, "lease time", " s"},
+    {TFTP_SERVER_NAME, "server name", ""},
+    {HOST_NAME, "host name", ""},
+    {DOMAIN_NAME, "domain name", ""},
+};
+
+static const struct {
+    const char *cause, *place;
+} REFUSALS[] = {
+    [DHCPOPT_REFUSED_TOO_SHORT] = {"the message is under 240 bytes", "its length"},
+    [DHCPOPT_REFUSED_TOO_LONG] = {"the message is over 1,472 bytes", "its length"},
+    [DHCPOPT_REFUSED_BAD_COOKIE] = {"the cookie differs", "its first byte"},
+    [DHCPOPT_REFUSED_OPTION_TRUNCATED] = {"an option goes beyond its field", "its code byte"},
+    [DHCPOPT_REFUSED_NO_END] = {"a field has no END", "the first byte after it"},
+    [DHCPOPT_REFUSED_BAD_OVERLOAD] = {"option 52 is in file or sname, or is not one byte from 1 to 3", "its code byte"},
+    [DHCPOPT_REFUSED_DUPLICATE] = {"a code is there twice", "the later one"},
+    [DHCPOPT_REFUSED_BAD_LENGTH] = {"the length is wrong for this code", "its code or tag byte"},
+    [DHCPOPT_REFUSED_BAD_VALUE] = {"the value is wrong for this code", "its code or tag byte"},
+    [DHCPOPT_REFUSED_BAD_CODE] = {"0, 52 and 255 are no settings", "the tag byte"},
+    [DHCPOPT_REFUSED_NO_ROOM] = {"the settings do not fit with this permission", "the message's length"},
+    [DHCPOPT_REFUSED_RECORD_TRUNCATED] = {"a record goes beyond the sheet", "its tag byte"},
+    [DHCPOPT_REFUSED_RECORD_TOO_LONG] = {"a record has more than 255 data bytes", "its tag byte"},
+    [DHCPOPT_REFUSED_ROUTER_BEFORE_MASK] = {"the router (3) stands before the subnet mask (1)", "the byte of tag 3"},
+    [DHCPOPT_REFUSED_BAD_PERMISSION] = {"the permission is over 3", "always 0"},
+    [DHCPOPT_REFUSED_SHEET_TOO_LONG] = {"the sheet is over 4,096 bytes", "its length"},
+};
+
+static const char *const PLANS[] = {
+    [DHCPOPT_OVERLOAD_NONE] = "options alone",
+    [DHCPOPT_OVERLOAD_FILE] = "options and file",
+    [DHCPOPT_OVERLOAD_SNAME] = "options and sname",
+    [DHCPOPT_OVERLOAD_BOTH] = "options, file and sname",
+};
+
+/* One byte more than the longest is taken in, so that a longer one is seen and refused. */
+static uint8_t message[DHCPOPT_LONGEST_MESSAGE + 1];
+static uint8_t sheet[DHCPOPT_LONGEST_SHEET + 1];
+
+static int fail(const char *what, const char *which)
+{
+    fprintf(stderr, "service: %s: %s\n", what, which);
+    return FAILED;
+}
+
+static bool read_file(const char *name, uint8_t *to, size_t room, size_t *size)
+{
+    FILE *f = fopen(name, "rb");
+    if (f == NULL)
+        return false;
+    *size = fread(to, 1, room, f);
+    bool good = !ferror(f);
+    fclose(f);
+    return good;
+}
+
+static bool write_file(const char *name, const uint8_t *from, size_t size)
+{
+    FILE *f = fopen(name, "wb");
+    if (f == NULL)
+        return false;
+    bool good = fwrite(from, 1, size, f) == size;
+    return fclose(f) == 0 && good;
+}
+
+/* A larger number would be cut to its low byte on its way into a uint8_t, and mean something else. */
+static bool read_number(const char *word, unsigned long most, unsigned long *number)
+{
+    char *end;
+    if (!isdigit((unsigned char)word[0]))
+        return false;
+    errno = 0;
+    *number = strtoul(word, &end, 10);
+    return errno == 0 && *end == '\0' && *number <= most;
+}
+
+static void tell_refusal(uint32_t refusal, size_t place)
+{
+    if (refusal < sizeof REFUSALS / sizeof REFUSALS[0] && REFUSALS[refusal].cause != NULL)
+        printf("refused %" PRIu32 " at %zu: %s; the place is %s\n", refusal, place, REFUSALS[refusal].cause, REFUSALS[refusal].place);
+    else
+        printf("refused %" PRIu32 " at %zu\n", refusal, place);
+}
+
+static void tell_addresses(const uint8_t *list, size_t size)
+{
+    const char *before = "";
+    for (dhcpopt_address a = dhcpopt_address_step(list, size, 0); a.given; a = dhcpopt_address_step(list, size, a.next)) {
+        printf("%s%" PRIu32 ".%" PRIu32 ".%" PRIu32 ".%" PRIu32, before, a.address >> 24, a.address >> 16 & 255, a.address >> 8 & 255,
+               a.address & 255);
+        before = ", ";
+    }
+    printf("\n");
+}
+
+/* Any byte may stand in a text, so what is not plain is shown in hex. */
+static void tell_text(const uint8_t *text, size_t size)
+{
+    printf("\"");
+    for (size_t i = 0; i < size; i++) {
+        if (text[i] >= ' ' && text[i] <= '~' && text[i] != '"' && text[i] != '\\')
+            printf("%c", text[i]);
+        else
+            printf("\\x%02x", text[i]);
+    }
+    printf("\"\n");
+}
+
+static void tell_answer(const dhcpopt_answer *a, const char *unit)
+{
+    switch (a->status) {
+    case DHCPOPT_STATUS_ABSENT:
+        printf("absent\n");
+        break;
+    case DHCPOPT_STATUS_UNKNOWN:
+        printf("unknown to the meter, %zu bytes at %zu\n", a->length, a->start);
+        break;
+    case DHCPOPT_STATUS_REFUSED:
+        tell_refusal(a->refusal, a->place);
+        break;
+    case DHCPOPT_STATUS_NUMBER:
+        printf("%" PRId64 "%s\n", a->number, unit);
+        break;
+    default: /* a part */
+        if (a->kind == DHCPOPT_KIND_TEXT)
+            tell_text(message + a->start, a->length);
+        else
+            tell_addresses(message + a->start, a->length);
+    }
+}
+
+static int read_settings(size_t size, dhcpopt_known known)
+{
+    dhcpopt_codes codes = dhcpopt_present(message, size);
+    if (codes.refusal != DHCPOPT_NOT_REFUSED) {
+        tell_refusal(codes.refusal, codes.place);
+        return REFUSED;
+    }
+    printf("accepted: %zu bytes, %" PRIu32 " options\n", size, codes.count);
+    int result = DONE;
+    for (size_t i = 0; i < sizeof SETTINGS / sizeof SETTINGS[0]; i++) {
+        dhcpopt_answer a = dhcpopt_lookup_known(message, size, known, SETTINGS[i].code);
+        printf("%s (%d): ", SETTINGS[i].name, SETTINGS[i].code);
+        tell_answer(&a, SETTINGS[i].unit);
+        if (a.status == DHCPOPT_STATUS_REFUSED)
+            result = REFUSED;
+    }
+    return result;
+}
+
+/* The header is the service's own. sname and file are cleared too: where the plan does not use them they stay as they are. */
+static void begin_reply(void)
+{
+    static const uint8_t header[DHCPOPT_HEADER_SIZE] = {
+        2,   1,   6, 0,            /* op: reply; htype: Ethernet; hlen; hops */
+        57,  3,   243, 38,         /* xid: the request's */
+        0,   0,   0x80, 0,         /* secs; flags: broadcast */
+        0,   0,   0, 0,            /* ciaddr */
+        192, 0,   2, 10,           /* yiaddr: the address offered */
+        192, 0,   2, 1,            /* siaddr */
+        0,   0,   0, 0,            /* giaddr: the request's */
+        0,   0,   0x5e, 0, 0x53, 1 /* chaddr: the request's */
+    };
+    memset(message, 0, sizeof message);
+    memcpy(message, header, sizeof header);
+}
+
+/* Sixteen bytes to a line, behind the place of the first. */
+static void dump(const uint8_t *bytes, size_t size)
+{
+    for (size_t i = 0; i < size; i++) {
+        if (i % 16 == 0)
+            printf("%s%5zu ", i == 0 ? "" : "\n", i);
+        printf(" %02x", bytes[i]);
+    }
+    printf("\n");
+}
+
+static int offer(size_t sheet_size, size_t size, uint8_t permission)
+{
+    begin_reply();
+    dhcpopt_wrote w = dhcpopt_write(sheet, sheet_size, message, size, permission);
+    if (w.refusal != DHCPOPT_NOT_REFUSED) {
+        tell_refusal(w.refusal, w.place);
+        return REFUSED;
+    }
+    printf("plan %" PRIu32 ": %s\n", w.plan, PLANS[w.plan]);
+    dump(message, size);
+    return DONE;
+}
+
+static int read_command(int argc, char **argv)
+{
+    size_t size;
+    dhcpopt_known known = {{0, 0, 0, 0}};
+    if (argc == 3)
+        known = dhcpopt_known_all();
+    for (int i = 3; i < argc; i++) {
+        unsigned long code;
+        if (!read_number(argv[i], 255, &code))
+            return fail("not a code", argv[i]);
+        known = dhcpopt_known_with(known, (uint8_t)code);
+    }
+    if (!read_file(argv[2], message, sizeof message, &size))
+        return fail("cannot be read", argv[2]);
+    return read_settings(size, known);
+}
+
+static int offer_command(int argc, char **argv)
+{
+    size_t sheet_size;
+    unsigned long size, permission;
+    if (!read_number(argv[3], sizeof message, &size))
+        return fail("not a size from 0 to 1473", argv[3]);
+    if (!read_number(argv[4], 255, &permission))
+        return fail("not a permission from 0 to 255", argv[4]);
+    if (!read_file(argv[2], sheet, sizeof sheet, &sheet_size))
+        return fail("cannot be read", argv[2]);
+    int result = offer(sheet_size, size, (uint8_t)permission);
+    if (result == DONE && argc == 6 && !write_file(argv[5], message, size))
+        return fail("cannot be written", argv[5]);
+    return result;
+}
+
+int main(int argc, char **argv)
+{
+    int result;
+    if (argc >= 3 && strcmp(argv[1], "read") == 0) {
+        result = read_command(argc, argv);
+    } else if ((argc == 5 || argc == 6) && strcmp(argv[1], "offer") == 0) {
+        result = offer_command(argc, argv);
+    } else {
+        fputs("usage: service read MESSAGE [CODE...]\n"
+              "       service offer SHEET SIZE PERMISSION [MESSAGE]\n",
+              stderr);
+        return FAILED;
+    }
+    if (fflush(stdout) != 0)
+        return fail("cannot be written", "standard output");
+    return result;
+}

@@ -1,0 +1,267 @@
+/*
+ * The options of one DHCPv4 message (RFC 2131, RFC 2132): a reader and a writer, for C11 and C++17 on x86-64.
+ *
+ * libdhcpopt_reader.a has every call but dhcpopt_write, and libdhcpopt_writer.a has that one alone, so a meter that only
+ * reads links the reader's archive alone. docs/C-API.md has an example of each call.
+ *
+ * For every call:
+ * - A message or sheet is a pointer and its number of bytes. The pointer is never null, also where that number is 0.
+ * - What a call writes to (out, buffer) overlaps nothing else that it is given.
+ * - A place counts bytes, from 0 at the first one. A place of the message counts from the message's first byte, in every field.
+ * - A refusal has a number, one of DHCPOPT_REFUSED_*, and a place. It changes no byte of the caller's.
+ * - A member that an answer does not need is 0.
+ * - Nothing is allocated and nothing is kept from one call to the next.
+ */
+#ifndef DHCPOPT_H
+#define DHCPOPT_H
+
+#include <stddef.h>
+#include <stdint.h>
+
+#ifdef __cplusplus
+extern "C" {
+#endif
+
+/* Where the fields of a message stand. The options field goes on to the message's end. */
+enum {
+    DHCPOPT_HEADER_SIZE = 44, /* op to chaddr: the caller's, neither read nor written */
+    DHCPOPT_SNAME_OFFSET = 44,
+    DHCPOPT_SNAME_SIZE = 64,
+    DHCPOPT_FILE_OFFSET = 108,
+    DHCPOPT_FILE_SIZE = 128,
+    DHCPOPT_COOKIE_OFFSET = 236,
+    DHCPOPT_COOKIE_SIZE = 4, /* 99, 130, 83, 99 */
+    DHCPOPT_OPTIONS_OFFSET = 240
+};
+
+/* Sizes in bytes. */
+enum {
+    DHCPOPT_SHORTEST_MESSAGE = 240,
+    DHCPOPT_LONGEST_MESSAGE = 1472,
+    DHCPOPT_LONGEST_SHEET = 4096 /* that dhcpopt_write takes. The records of a message are always shorter */
+};
+
+/* What a lookup found. */
+enum {
+    DHCPOPT_STATUS_ABSENT = 0,
+    DHCPOPT_STATUS_UNKNOWN = 1, /* the code is not in the known set, or has no kind: start and length of its data */
+    DHCPOPT_STATUS_REFUSED = 2, /* refusal and place */
+    DHCPOPT_STATUS_NUMBER = 3,  /* kind and number */
+    DHCPOPT_STATUS_PART = 4     /* kind, and start and length of its bytes in the message */
+};
+
+/* The kind of an option. Behind each: whether a lookup gives a number or a part. */
+enum {
+    DHCPOPT_KIND_NONE = 0,
+    DHCPOPT_KIND_ADDRESS = 1,       /* number: 192.0.2.1 is 0xC0000201 */
+    DHCPOPT_KIND_ADDRESS_LIST = 2,  /* part, for dhcpopt_address_step */
+    DHCPOPT_KIND_ADDRESS_PAIRS = 3, /* part, for dhcpopt_address_step: first and second of a pair by turns */
+    DHCPOPT_KIND_FLAG = 4,          /* number, 0 or 1 */
+    DHCPOPT_KIND_BYTE = 5,          /* number */
+    DHCPOPT_KIND_UINT16 = 6,        /* number */
+    DHCPOPT_KIND_UINT16_LIST = 7,   /* part: two bytes each, the high byte first */
+    DHCPOPT_KIND_UINT32 = 8,        /* number */
+    DHCPOPT_KIND_INT32 = 9,         /* number, may be negative: option 2, seconds east of UTC */
+    DHCPOPT_KIND_TEXT = 10,         /* part, without the trailing zeros. Not ended by a zero; any byte may stand in it */
+    DHCPOPT_KIND_OPAQUE = 11        /* part */
+};
+
+/*
+ * Why a call is refused, and after the colon what its place then is.
+ * Reading gives 1 to 11, and 8 and 9 only from the lookup. Writing gives 1, 2 and 7 to 16.
+ */
+enum {
+    DHCPOPT_NOT_REFUSED = 0,
+    DHCPOPT_REFUSED_TOO_SHORT = 1,           /* message or buffer under 240 bytes: its length */
+    DHCPOPT_REFUSED_TOO_LONG = 2,            /* message or buffer over 1,472 bytes: its length */
+    DHCPOPT_REFUSED_BAD_COOKIE = 3,          /* the cookie differs: 236 */
+    DHCPOPT_REFUSED_OPTION_TRUNCATED = 4,    /* length byte or data beyond the field: the code byte */
+    DHCPOPT_REFUSED_NO_END = 5,              /* field without END: the first byte after the field */
+    DHCPOPT_REFUSED_BAD_OVERLOAD = 6,        /* option 52 in file or sname, or not one byte from 1 to 3: its code byte */
+    DHCPOPT_REFUSED_DUPLICATE = 7,           /* code or tag met again: the later one */
+    DHCPOPT_REFUSED_BAD_LENGTH = 8,          /* the length breaks the kind: the code or tag byte */
+    DHCPOPT_REFUSED_BAD_VALUE = 9,           /* the value breaks the kind: the code or tag byte */
+    DHCPOPT_REFUSED_BAD_CODE = 10,           /* reading, asked for code 0 or 255: 0. Writing, tag 0, 52 or 255: the tag byte */
+    DHCPOPT_REFUSED_NO_ROOM = 11,            /* reading, out too small: room. Writing, no permitted plan fits: the buffer's size */
+    DHCPOPT_REFUSED_RECORD_TRUNCATED = 12,   /* record head or data beyond the sheet: the tag byte */
+    DHCPOPT_REFUSED_RECORD_TOO_LONG = 13,    /* record of more than 255 data bytes: the tag byte */
+    DHCPOPT_REFUSED_ROUTER_BEFORE_MASK = 14, /* tag 3 stands before tag 1: the byte of tag 3 */
+    DHCPOPT_REFUSED_BAD_PERMISSION = 15,     /* permission over 3: 0 */
+    DHCPOPT_REFUSED_SHEET_TOO_LONG = 16      /* sheet over 4,096 bytes: its length */
+};
+
+/* Permissions to overload, and the plans that the writer may then use: the value of option 52, or 0 without it. */
+enum {
+    DHCPOPT_OVERLOAD_NONE = 0,
+    DHCPOPT_OVERLOAD_FILE = 1,
+    DHCPOPT_OVERLOAD_SNAME = 2,
+    DHCPOPT_OVERLOAD_BOTH = 3 /* as a permission: either or both */
+};
+
+/* A lookup's answer. status says which members it gives. */
+typedef struct {
+    uint32_t status;  /* DHCPOPT_STATUS_* */
+    uint32_t kind;    /* DHCPOPT_KIND_* */
+    uint32_t refusal; /* DHCPOPT_REFUSED_* */
+    int64_t number;
+    size_t place;
+    size_t start;
+    size_t length;
+} dhcpopt_answer;
+
+/* A part of the message. An empty one is 0 and 0. */
+typedef struct {
+    size_t start;
+    size_t length;
+} dhcpopt_extent;
+
+/* A step in an address list: given is 1, with the address and the place after it; or 0, and next is the place asked for. */
+typedef struct {
+    uint32_t given;
+    uint32_t address; /* 192.0.2.1 is 0xC0000201 */
+    size_t next;
+} dhcpopt_address;
+
+/* The codes of a message: code c is bit c % 64 of words[c / 64]. count: how many; lowest: 0 if there is none. */
+typedef struct {
+    uint64_t words[4];
+    uint32_t count;
+    uint32_t lowest;
+    uint32_t refusal; /* DHCPOPT_NOT_REFUSED, or all above are 0 */
+    size_t place;
+} dhcpopt_codes;
+
+/* What dhcpopt_records gave: size bytes, or a refusal. */
+typedef struct {
+    uint32_t refusal; /* DHCPOPT_NOT_REFUSED, or size is 0 */
+    size_t size;
+    size_t place;
+} dhcpopt_filled;
+
+/* What dhcpopt_write did: the plan used (DHCPOPT_OVERLOAD_*), or a refusal. */
+typedef struct {
+    uint32_t refusal; /* DHCPOPT_NOT_REFUSED, or plan is 0 */
+    uint32_t plan;
+    size_t place;
+} dhcpopt_wrote;
+
+/*
+ * Looks up a code. k0 to k3 are the set of known codes: code c is bit c % 64 of word c / 64.
+ * The set never decides whether the message is accepted.
+ * Refused, in this order: 10 at 0; 1 or 2 at the length; 3 at 236; the first fault of the message in reading order (options, file,
+ * sname): 4, 6 or 7 at its code byte, or 5 at the first byte after the field; then 8 or 9 at the code byte of a known code.
+ */
+dhcpopt_answer dhcpopt_lookup(const uint8_t *message, size_t size, uint64_t k0, uint64_t k1, uint64_t k2, uint64_t k3, uint8_t code);
+
+/*
+ * All data bytes of a code, whatever its kind, also where the lookup refuses it by 8 or 9.
+ * Empty where the code is absent or has no data, and on any other refusal: dhcpopt_lookup names the cause.
+ */
+dhcpopt_extent dhcpopt_data(const uint8_t *message, size_t size, uint8_t code);
+
+/* The text of a code, without its trailing zeros. Empty unless the lookup with the same known set answers with a text. */
+dhcpopt_extent dhcpopt_text(const uint8_t *message, size_t size, uint64_t k0, uint64_t k1, uint64_t k2, uint64_t k3, uint8_t code);
+
+/*
+ * The address at a place of a list: begin with at = 0, go on at next, until given is 0. list and size are those of the data
+ * (message + start, length). One to three bytes left over are not given. Never refused.
+ */
+dhcpopt_address dhcpopt_address_step(const uint8_t *list, size_t size, size_t at);
+
+/* The codes present, 52 included. Refused by 1 to 7, with places as in dhcpopt_lookup. */
+dhcpopt_codes dhcpopt_present(const uint8_t *message, size_t size);
+
+/*
+ * Every option but 52, in reading order, as records in out: tag (1 byte), length (2 bytes, the high byte first), data.
+ * Bytes of out after the given ones stay as they were. A refusal leaves all of out as it was.
+ * Refused by 1 to 7, with places as in dhcpopt_lookup, then by 11 at room. A room of DHCPOPT_LONGEST_SHEET is always enough.
+ */
+dhcpopt_filled dhcpopt_records(const uint8_t *message, size_t size, uint8_t *out, size_t room);
+
+/*
+ * Writes a sheet of such records into a message buffer. The whole buffer, all its size bytes, is then the message.
+ * Permitted plans are tried rising, and the first that fits is used. Written are the cookie, the options field and whichever of file
+ * and sname the plan uses, each to its last byte; the header and an unused file or sname stay as they were.
+ * A refusal leaves all of the buffer as it was. Refused, in this order: 1 or 2 at size; 15 at 0; 16 at sheet_size; the first faulty
+ * record at its tag byte: 12, 10, 13, 7, 8, 9; then 14 at the byte of tag 3; then 11 at size.
+ */
+dhcpopt_wrote dhcpopt_write(const uint8_t *sheet, size_t sheet_size, uint8_t *buffer, size_t size, uint8_t permission);
+
+/* A set of known codes. Begin with {{0, 0, 0, 0}} or with dhcpopt_known_all. */
+typedef struct {
+    uint64_t words[4];
+} dhcpopt_known;
+
+static inline dhcpopt_known dhcpopt_known_all(void)
+{
+    dhcpopt_known all = {{UINT64_MAX, UINT64_MAX, UINT64_MAX, UINT64_MAX}};
+    return all;
+}
+
+static inline dhcpopt_known dhcpopt_known_with(dhcpopt_known known, uint8_t code)
+{
+    known.words[code / 64] |= UINT64_C(1) << (code % 64);
+    return known;
+}
+
+static inline dhcpopt_answer dhcpopt_lookup_known(const uint8_t *message, size_t size, dhcpopt_known known, uint8_t code)
+{
+    return dhcpopt_lookup(message, size, known.words[0], known.words[1], known.words[2], known.words[3], code);
+}
+
+static inline dhcpopt_extent dhcpopt_text_known(const uint8_t *message, size_t size, dhcpopt_known known, uint8_t code)
+{
+    return dhcpopt_text(message, size, known.words[0], known.words[1], known.words[2], known.words[3], code);
+}
+
+/* The archives are compiled for these layouts. */
+#ifdef __cplusplus
+#define DHCPOPT_ASSERT(what) static_assert(what, #what)
+#define DHCPOPT_SIZE(type, member) sizeof(type::member)
+#else
+#define DHCPOPT_ASSERT(what) _Static_assert(what, #what)
+#define DHCPOPT_SIZE(type, member) sizeof(((type *)0)->member)
+#endif
+#define DHCPOPT_MEMBER(type, member, at, bytes) \
+    DHCPOPT_ASSERT(offsetof(type, member) == (at) && DHCPOPT_SIZE(type, member) == (bytes))
+
+DHCPOPT_ASSERT(sizeof(void *) == 8 && sizeof(size_t) == 8);
+DHCPOPT_ASSERT(sizeof(dhcpopt_answer) == 48);
+DHCPOPT_MEMBER(dhcpopt_answer, status, 0, 4);
+DHCPOPT_MEMBER(dhcpopt_answer, kind, 4, 4);
+DHCPOPT_MEMBER(dhcpopt_answer, refusal, 8, 4);
+DHCPOPT_MEMBER(dhcpopt_answer, number, 16, 8);
+DHCPOPT_MEMBER(dhcpopt_answer, place, 24, 8);
+DHCPOPT_MEMBER(dhcpopt_answer, start, 32, 8);
+DHCPOPT_MEMBER(dhcpopt_answer, length, 40, 8);
+DHCPOPT_ASSERT(sizeof(dhcpopt_extent) == 16);
+DHCPOPT_MEMBER(dhcpopt_extent, start, 0, 8);
+DHCPOPT_MEMBER(dhcpopt_extent, length, 8, 8);
+DHCPOPT_ASSERT(sizeof(dhcpopt_address) == 16);
+DHCPOPT_MEMBER(dhcpopt_address, given, 0, 4);
+DHCPOPT_MEMBER(dhcpopt_address, address, 4, 4);
+DHCPOPT_MEMBER(dhcpopt_address, next, 8, 8);
+DHCPOPT_ASSERT(sizeof(dhcpopt_codes) == 56);
+DHCPOPT_MEMBER(dhcpopt_codes, words, 0, 32);
+DHCPOPT_MEMBER(dhcpopt_codes, count, 32, 4);
+DHCPOPT_MEMBER(dhcpopt_codes, lowest, 36, 4);
+DHCPOPT_MEMBER(dhcpopt_codes, refusal, 40, 4);
+DHCPOPT_MEMBER(dhcpopt_codes, place, 48, 8);
+DHCPOPT_ASSERT(sizeof(dhcpopt_filled) == 24);
+DHCPOPT_MEMBER(dhcpopt_filled, refusal, 0, 4);
+DHCPOPT_MEMBER(dhcpopt_filled, size, 8, 8);
+DHCPOPT_MEMBER(dhcpopt_filled, place, 16, 8);
+DHCPOPT_ASSERT(sizeof(dhcpopt_wrote) == 16);
+DHCPOPT_MEMBER(dhcpopt_wrote, refusal, 0, 4);
+DHCPOPT_MEMBER(dhcpopt_wrote, plan, 4, 4);
+DHCPOPT_MEMBER(dhcpopt_wrote, place, 8, 8);
+
+#undef DHCPOPT_MEMBER
+#undef DHCPOPT_SIZE
+#undef DHCPOPT_ASSERT
+
+#ifdef __cplusplus
+}
+#endif
+
+#endif

@@ -3,7 +3,7 @@
  * compare sheets FILE...     writes each sheet with both: every buffer size, every permission, cut off anywhere, any byte changed
  */
 #include "input.h"
-#include "library.h"
+#include "dhcpopt.h"
 #include "plain.h"
 
 #include <string.h>

@@ -1,14 +1,14 @@
 /*
- * driver plain|library CALL FILE [NUMBER...]   makes one call, for `run` to count
- * driver time CALL FILE [NUMBER...]            prints the nanoseconds of a call, plain C's and the library's
+ * driver plain|rust|library CALL FILE [NUMBER...]   makes one call, for `run` to count
+ * driver time CALL FILE [NUMBER...]                 prints the nanoseconds of a call: plain C's, plain Rust's and the library's
  *
  * FILE is a message, or the sheet to write. The numbers: the code for lookup and data; the buffer's size and the permission for write.
- * The library's side is left out unless LIBRARY is defined.
+ * The library's side is left out unless LIBRARY is defined, Rust's unless RUST is.
  */
 #define _POSIX_C_SOURCE 199309L
 
 #include "input.h"
-#include "library.h"
+#include "dhcpopt.h"
 #include "plain.h"
 
 #include <stdbool.h>
@@ -31,29 +31,47 @@ static bool records_plain(void) { return plain_records(in, size, out, ROOM).refu
 static bool write_plain(void) { return plain_write(in, size, out, room, permission).refusal == 0; }
 
 #ifdef LIBRARY
-#define BOTH(call) {#call, call##_plain, call##_library}
-
+#define LIBRARY_SIDE(call) call##_library
 static bool lookup_library(void) { return dhcpopt_lookup(in, size, every[0], every[1], every[2], every[3], code).refusal == 0; }
 static bool data_library(void) { return dhcpopt_data(in, size, code).length > 0; }
 static bool present_library(void) { return dhcpopt_present(in, size).refusal == 0; }
 static bool records_library(void) { return dhcpopt_records(in, size, out, ROOM).refusal == 0; }
 static bool write_library(void) { return dhcpopt_write(in, size, out, room, permission).refusal == 0; }
 #else
-#define BOTH(call) {#call, call##_plain, NULL}
+#define LIBRARY_SIDE(call) NULL
 #endif
+
+#ifdef RUST
+#define RUST_SIDE(call) call##_rust
+dhcpopt_answer independent_lookup(const uint8_t *m, size_t n, uint64_t k0, uint64_t k1, uint64_t k2, uint64_t k3, uint8_t code);
+dhcpopt_extent independent_data(const uint8_t *m, size_t n, uint8_t code);
+dhcpopt_codes independent_present(const uint8_t *m, size_t n);
+dhcpopt_filled independent_records(const uint8_t *m, size_t n, uint8_t *out, size_t room);
+dhcpopt_wrote independent_write(const uint8_t *sheet, size_t n, uint8_t *m, size_t room, uint8_t permission);
+static bool lookup_rust(void) { return independent_lookup(in, size, every[0], every[1], every[2], every[3], code).refusal == 0; }
+static bool data_rust(void) { return independent_data(in, size, code).length > 0; }
+static bool present_rust(void) { return independent_present(in, size).refusal == 0; }
+static bool records_rust(void) { return independent_records(in, size, out, ROOM).refusal == 0; }
+static bool write_rust(void) { return independent_write(in, size, out, room, permission).refusal == 0; }
+#else
+#define RUST_SIDE(call) NULL
+#endif
+
+#define SIDES(call) {#call, {call##_plain, RUST_SIDE(call), LIBRARY_SIDE(call)}}
 
 typedef struct {
     const char *name;
-    bool (*plain)(void), (*library)(void);
-} pair;
+    bool (*side[3])(void);
+} call_sides;
 
-static const pair pairs[] = {BOTH(lookup), BOTH(data), BOTH(present), BOTH(records), BOTH(write)};
+static const char *const names[3] = {"plain", "rust", "library"};
+static const call_sides calls[] = {SIDES(lookup), SIDES(data), SIDES(present), SIDES(records), SIDES(write)};
 
-static const pair *find(const char *name)
+static const call_sides *find(const char *name)
 {
-    for (size_t i = 0; i < sizeof pairs / sizeof pairs[0]; i++)
-        if (strcmp(pairs[i].name, name) == 0)
-            return &pairs[i];
+    for (size_t i = 0; i < sizeof calls / sizeof calls[0]; i++)
+        if (strcmp(calls[i].name, name) == 0)
+            return &calls[i];
     fail("no such call", name);
     return NULL;
 }
@@ -68,24 +86,23 @@ static double nanoseconds(bool (*call)(void))
     return ((double)(b.tv_sec - a.tv_sec) * 1e9 + (double)(b.tv_nsec - a.tv_nsec)) / CALLS;
 }
 
-/* The two sides take turns, so that what else the machine does meets both. */
-static void time_both(const pair *p)
+/* The sides take turns, so that what else the machine does meets all. */
+static void time_all(const call_sides *c)
 {
-    double plain = 1e9, library = 1e9;
-    for (int i = 0; i < REPETITIONS; i++) {
-        double t = nanoseconds(p->plain);
-        plain = t < plain ? t : plain;
-        t = p->library == NULL ? 0 : nanoseconds(p->library);
-        library = t < library ? t : library;
-    }
-    printf("%.0f %.0f\n", plain, library);
+    double best[3] = {1e9, 1e9, 1e9};
+    for (int i = 0; i < REPETITIONS; i++)
+        for (int k = 0; k < 3; k++) {
+            double t = c->side[k] == NULL ? 0 : nanoseconds(c->side[k]);
+            best[k] = t < best[k] ? t : best[k];
+        }
+    printf("%.0f %.0f %.0f\n", best[0], best[1], best[2]);
 }
 
 int main(int argc, char **argv)
 {
     if (argc < 4)
-        fail("usage", "driver plain|library|time CALL FILE [NUMBER...]");
-    const pair *p = find(argv[2]);
+        fail("usage", "driver plain|rust|library|time CALL FILE [NUMBER...]");
+    const call_sides *c = find(argv[2]);
     size = take(argv[3], in, sizeof in);
     if (argc == 5)
         code = (uint8_t)atoi(argv[4]);
@@ -96,12 +113,15 @@ int main(int argc, char **argv)
     if (room > sizeof out)
         fail("no such buffer", argv[4]);
     if (strcmp(argv[1], "time") == 0) {
-        time_both(p);
+        time_all(c);
         return 0;
     }
-    bool (*call)(void) = strcmp(argv[1], "plain") == 0 ? p->plain : p->library;
+    bool (*call)(void) = NULL;
+    for (int k = 0; k < 3; k++)
+        if (strcmp(argv[1], names[k]) == 0)
+            call = c->side[k];
     if (call == NULL)
-        fail("built without the library", argv[2]);
+        fail("built without this side", argv[1]);
     if (!call())
         fail("refused", argv[2]);
     return 0;

@@ -1,0 +1,13 @@
+//! The differential tester.
+
+pub mod broken;
+pub mod captures;
+pub mod compare;
+mod counts;
+mod lent;
+pub mod library;
+mod messages;
+mod rng;
+mod sheets;
+pub mod sides;
+mod values;

@@ -26,12 +26,8 @@ fn link() {
     let package = env::var("CARGO_MANIFEST_DIR").unwrap();
     let archives = format!("{package}/../../target/staticlib");
     println!("cargo:rustc-link-search=native={archives}");
-    println!("cargo:rustc-check-cfg=cfg(has_writer)");
     for name in ["reader", "writer"] {
         println!("cargo:rerun-if-changed={archives}/libdhcpopt_{name}.a");
-    }
-    if Path::new(&archives).join("libdhcpopt_writer.a").exists() {
-        println!("cargo:rustc-cfg=has_writer");
     }
 }
 
@@ -40,7 +36,7 @@ fn variants() -> String {
     let mut text = String::new();
     let mut list = String::new();
     for (i, variant) in VARIANTS.iter().enumerate() {
-        writeln!(text, "#[allow(warnings)]\nmod variant_{i} {{").unwrap();
+        writeln!(text, "#[allow(warnings, clippy::all)]\nmod variant_{i} {{").unwrap();
         writeln!(text, "pub use independent::rules::answers;").unwrap();
         let copied = FILES.iter().find(|(file, _)| *file == variant.file).unwrap().1;
         for (file, _) in FILES {

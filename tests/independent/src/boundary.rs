@@ -192,11 +192,7 @@ pub unsafe extern "C" fn independent_text(
 /// # Safety
 /// `list` points to `n` readable bytes.
 #[no_mangle]
-pub unsafe extern "C" fn independent_address_step(
-    list: *const u8,
-    n: usize,
-    at: usize,
-) -> Address {
+pub unsafe extern "C" fn independent_address_step(list: *const u8, n: usize, at: usize) -> Address {
     Address::of_step(reading::address_step(lent(list, n), at), at)
 }
 

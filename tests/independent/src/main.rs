@@ -8,7 +8,7 @@ use std::time::Instant;
 use tester::compare::Run;
 use tester::library::library;
 use tester::sides::independent_rules;
-use tester::{broken, captures};
+use tester::{broken, captures, edges};
 
 const SHORT_SEEDS: [u64; 4] = [1, 2, 3, 4];
 const SHORT_CASES: u64 = 525_000;
@@ -17,7 +17,7 @@ const LONG_CASES: u64 = 1_000_000;
 
 const USAGE: &str = "\
 usage: independent [MODE]
-  short            the default: 2,100,000 messages and sheets, and each answer often enough
+  short            the default: all edges, 2,100,000 generated cases, each answer often enough
   long N           N million messages and sheets of other seeds
   captures [DIR]   the files *.bin of a folder (../vectors/captures)
   broken           wrong variants and wrong subjects, each of which has to be detected
@@ -52,7 +52,11 @@ fn new_run() -> Run {
 
 fn short() -> i32 {
     let mut run = new_run();
+    let start = Instant::now();
+    edges::run(&mut run);
+    println!("edges: {} cases", run.counts.compared());
     cases(&mut run, SHORT_SEEDS, SHORT_CASES);
+    println!("{:.1} seconds", start.elapsed().as_secs_f64());
     run.counts.print();
     let missing = run.counts.missing();
     for what in &missing {
@@ -68,13 +72,14 @@ fn short() -> i32 {
 
 fn long(millions: u64) -> i32 {
     let mut run = new_run();
+    let start = Instant::now();
     cases(&mut run, LONG_FIRST_SEED..LONG_FIRST_SEED + millions, LONG_CASES);
+    println!("{:.1} seconds", start.elapsed().as_secs_f64());
     run.counts.print();
     end(&run)
 }
 
 fn cases(run: &mut Run, seeds: impl IntoIterator<Item = u64>, count: u64) {
-    let start = Instant::now();
     for seed in seeds {
         println!("seed {seed}, cases 0 to {}", count - 1);
         for index in 0..count {
@@ -84,7 +89,6 @@ fn cases(run: &mut Run, seeds: impl IntoIterator<Item = u64>, count: u64) {
             }
         }
     }
-    println!("{:.1} seconds", start.elapsed().as_secs_f64());
 }
 
 fn captured(folder: &Path) -> i32 {
@@ -105,7 +109,6 @@ fn one(seed: u64, index: u64) -> i32 {
 }
 
 fn end(run: &Run) -> i32 {
-    let compared = run.counts.messages + run.counts.sheets;
-    println!("{compared} compared, {} differences", run.differences);
+    println!("{} compared, {} differences", run.counts.compared(), run.differences);
     i32::from(run.differences > 0)
 }

@@ -53,11 +53,11 @@ fn length_fits(kind: Kind, code: u8, length: usize) -> bool {
     match kind {
         Kind::Address | Kind::Unsigned32 | Kind::Signed32 => length == 4,
         // "68 may also have length 0"
-        Kind::AddressList => length % 4 == 0 && (length >= 4 || code == 68),
-        Kind::AddressPairs => length % 8 == 0 && length >= 8,
+        Kind::AddressList => length.is_multiple_of(4) && (length >= 4 || code == 68),
+        Kind::AddressPairs => length.is_multiple_of(8) && length >= 8,
         Kind::Flag | Kind::OneByte => length == 1,
         Kind::Number16 => length == 2,
-        Kind::List16 => length % 2 == 0 && length >= 2,
+        Kind::List16 => length.is_multiple_of(2) && length >= 2,
         Kind::Text => length >= 1,
         // "61: length 2 or more"
         Kind::Opaque => length >= if code == 61 { 2 } else { 1 },

@@ -16,13 +16,11 @@ pub fn run(run: &mut Run, folder: &Path) -> io::Result<()> {
         let bytes = fs::read(file)?;
         let mut rng = Rng::of_case(SEED, i as u64);
         run.name(format!("{}", file.display()));
-        run.counts.messages += 1;
         run.message_whole(&mut rng, &bytes);
         for copy in 0..EDITED {
             let mut edited = bytes.clone();
             mutate(&mut rng, &mut edited);
             run.name(format!("{}, edited copy {copy}", file.display()));
-            run.counts.messages += 1;
             run.message(&mut rng, &edited, copy % 10 == 0);
             if run.over() {
                 return Ok(());

@@ -78,13 +78,11 @@ impl Run {
             0 => self.list_case(&mut rng, &mut bytes),
             1..=20 => {
                 messages::message(&mut rng, &mut bytes);
-                self.counts.messages += 1;
                 let all = rng.below(100) == 0;
                 self.message(&mut rng, &bytes, all);
             }
             _ => {
                 sheets::sheet(&mut rng, &mut bytes);
-                self.counts.sheets += 1;
                 self.sheet(&mut rng, &bytes);
             }
         }
@@ -101,7 +99,11 @@ impl Run {
             return;
         }
         println!("DIFFERENCE in {call}; {}", self.case);
-        println!("  input ({} bytes): {}", self.input_before.len(), hex(self.input_before.middle()));
+        println!(
+            "  input ({} bytes): {}",
+            self.input_before.len(),
+            hex(self.input_before.middle())
+        );
         println!("  library:     {theirs:?}");
         println!("  independent: {ours:?}");
     }
@@ -137,6 +139,11 @@ impl Run {
 
     /// Reads one message: all 256 codes, or those present and some others.
     pub fn message(&mut self, rng: &mut Rng, bytes: &[u8], all: bool) {
+        self.counts.messages += 1;
+        self.read(rng, bytes, all);
+    }
+
+    fn read(&mut self, rng: &mut Rng, bytes: &[u8], all: bool) {
         self.hold_input(rng, bytes);
         let words = self.present();
         self.rooms(rng);
@@ -153,6 +160,7 @@ impl Run {
 
     /// Reads one message, all 256 codes with several known sets.
     pub fn message_whole(&mut self, rng: &mut Rng, bytes: &[u8]) {
+        self.counts.messages += 1;
         self.hold_input(rng, bytes);
         self.present();
         self.rooms(rng);
@@ -255,7 +263,7 @@ impl Run {
         let length = if rng.percent(90) { rng.below(20) } else { rng.below(300) };
         rng.telling_bytes(length, bytes);
         self.hold_input(rng, bytes);
-        self.counts.messages += 1;
+        self.counts.lists += 1;
         self.walk(0, length);
         for _ in 0..6 {
             let at = match rng.below(8) {
@@ -310,6 +318,7 @@ impl Run {
 
     /// Writes one sheet into several buffers.
     pub fn sheet(&mut self, rng: &mut Rng, bytes: &[u8]) {
+        self.counts.sheets += 1;
         let needs = Needs::of(bytes);
         for _ in 0..rng.between(1, 3) {
             self.hold_input(rng, bytes);
@@ -329,12 +338,10 @@ impl Run {
         let m = self.theirs.pointer();
         let wrote = unsafe { (self.subject.write)(sheet, n, m, room, permission) };
         let ours = (self.yardstick.write)(self.input.middle(), self.ours.middle_mut(), permission);
-        let fit = (0..4).find(|&plan| {
-            wrote.plan as usize == plan && needs.plan(plan) == Some(room)
-        });
-        let short = (0..4).find(|&plan| {
-            usize::from(permission) == plan && needs.plan(plan) == Some(room + 1)
-        });
+        let fit =
+            (0..4).find(|&plan| wrote.plan as usize == plan && needs.plan(plan) == Some(room));
+        let short = (0..4)
+            .find(|&plan| usize::from(permission) == plan && needs.plan(plan) == Some(room + 1));
         self.counts.write(self.input.middle(), permission, &wrote, fit, short);
         let name = || format!("write into {room} bytes, permission {permission}");
         self.equal(name, &wrote, &ours);
@@ -358,7 +365,26 @@ impl Run {
             let got = format!("{filled:?} {}", hex(self.theirs.middle()));
             self.differ("records of a written message", &got, &hex(sheet));
         }
-        self.message(rng, &message, false);
+        self.read(rng, &message, false);
+    }
+
+    /// One message with the answer of one code.
+    pub fn one_code(&mut self, rng: &mut Rng, bytes: &[u8], code: u8) {
+        self.counts.messages += 1;
+        self.hold_input(rng, bytes);
+        self.present();
+        let room = bytes.len();
+        self.records(rng, None, room);
+        self.ask(Codes([u64::MAX; 4]), code);
+        self.input_unchanged();
+    }
+
+    /// One sheet into one buffer.
+    pub fn one_write(&mut self, rng: &mut Rng, bytes: &[u8], room: usize, permission: u8) {
+        self.counts.sheets += 1;
+        self.hold_input(rng, bytes);
+        self.write(rng, &Needs::of(bytes), room, permission);
+        self.input_unchanged();
     }
 }
 

@@ -1,8 +1,8 @@
 //! What was exercised, and whether it was often enough.
 
 use independent::boundary::{Address, Answer, Extent, Filled, Present, Wrote};
-use independent::rules::kinds::kind_of;
 use independent::rules::answers::Kind;
+use independent::rules::kinds::kind_of;
 use independent::rules::reading::{COOKIE, FILE, OPTIONS, OVERLOAD, SNAME};
 
 /// How often each possible answer is to come in the short mode.
@@ -14,6 +14,7 @@ type Refusals = [u64; 17];
 pub struct Counts {
     pub messages: u64,
     pub sheets: u64,
+    pub lists: u64,
     pub calls: u64,
     pub read_back: u64,
     lookup: Refusals,
@@ -47,6 +48,7 @@ impl Counts {
         Counts {
             messages: 0,
             sheets: 0,
+            lists: 0,
             calls: 0,
             read_back: 0,
             lookup: [0; 17],
@@ -171,8 +173,16 @@ impl Counts {
         }
     }
 
+    /// Messages, sheets and lists together.
+    pub fn compared(&self) -> u64 {
+        self.messages + self.sheets + self.lists
+    }
+
     pub fn print(&self) {
-        println!("messages {}, sheets {}, calls {}", self.messages, self.sheets, self.calls);
+        println!(
+            "messages {}, sheets {}, address lists {}, calls {}",
+            self.messages, self.sheets, self.lists, self.calls
+        );
         println!("written messages read back as their sheet: {}", self.read_back);
         print_refusals("lookup", &self.lookup);
         print_refusals("present", &self.present);
@@ -304,10 +314,10 @@ impl Missing {
     }
 
     fn refusals(&mut self, call: &str, counts: &Refusals, possible: &[usize]) {
-        for number in 0..counts.len() {
+        for (number, &count) in counts.iter().enumerate() {
             if possible.contains(&number) {
-                self.one(&format!("{call} refusal {number}"), counts[number]);
-            } else if counts[number] > 0 {
+                self.one(&format!("{call} refusal {number}"), count);
+            } else if count > 0 {
                 self.0.push(format!("{call} gave the impossible refusal {number}"));
             }
         }

@@ -15,34 +15,17 @@ extern "C" {
         code: u8,
     ) -> Answer;
     fn dhcpopt_data(m: *const u8, n: usize, code: u8) -> Extent;
-    fn dhcpopt_text(
-        m: *const u8,
-        n: usize,
-        k0: u64,
-        k1: u64,
-        k2: u64,
-        k3: u64,
-        code: u8,
-    ) -> Extent;
+    fn dhcpopt_text(m: *const u8, n: usize, k0: u64, k1: u64, k2: u64, k3: u64, code: u8)
+        -> Extent;
     fn dhcpopt_address_step(list: *const u8, n: usize, at: usize) -> Address;
     fn dhcpopt_present(m: *const u8, n: usize) -> Present;
     fn dhcpopt_records(m: *const u8, n: usize, out: *mut u8, room: usize) -> Filled;
 }
 
-#[cfg(has_writer)]
 #[link(name = "dhcpopt_writer", kind = "static")]
 extern "C" {
-    fn dhcpopt_write(
-        sheet: *const u8,
-        n: usize,
-        m: *mut u8,
-        room: usize,
-        permission: u8,
-    ) -> Wrote;
+    fn dhcpopt_write(sheet: *const u8, n: usize, m: *mut u8, room: usize, permission: u8) -> Wrote;
 }
-
-#[cfg(not(has_writer))]
-use independent::boundary::independent_write as dhcpopt_write;
 
 pub fn library() -> Subject {
     Subject {

@@ -4,6 +4,7 @@ pub mod broken;
 pub mod captures;
 pub mod compare;
 mod counts;
+pub mod edges;
 mod lent;
 pub mod library;
 mod messages;

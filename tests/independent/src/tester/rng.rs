@@ -67,8 +67,8 @@ impl Rng {
             0 => (),
             1 => out[from..].fill(255),
             2 | 3 => {
-                for at in from..out.len() {
-                    out[at] = self.telling_byte();
+                for byte in &mut out[from..] {
+                    *byte = self.telling_byte();
                 }
             }
             _ => self.fill(&mut out[from..]),

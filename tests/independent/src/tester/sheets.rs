@@ -227,6 +227,11 @@ fn faulty(rng: &mut Rng, count: usize, out: &mut Vec<u8>) {
     }
     let mut order = false;
     for turn in 0..5 {
+        // Tag 1 after 3, and more after it.
+        if order && builder.rng.percent(40) {
+            builder.record(1, Want::Good, 255);
+            order = false;
+        }
         let mut here = Faults::default();
         for i in 0..2 {
             if turns[i] == turn {

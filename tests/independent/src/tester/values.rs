@@ -5,8 +5,7 @@ use independent::rules::answers::Kind;
 use independent::rules::kinds::kind_of;
 
 /// The codes with a rule on their value, 52 apart.
-const JUDGED: &[u8] =
-    &[19, 20, 22, 23, 25, 26, 27, 29, 30, 31, 33, 34, 36, 37, 39, 46, 53, 57];
+const JUDGED: &[u8] = &[19, 20, 22, 23, 25, 26, 27, 29, 30, 31, 33, 34, 36, 37, 39, 46, 53, 57];
 
 const COMMON: &[u8] = &[1, 2, 3, 6, 12, 25, 26, 33, 51, 53, 54, 57, 61, 67, 68];
 

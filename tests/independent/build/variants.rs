@@ -169,12 +169,10 @@ const VARIANTS: &[Variant] = &[
     variant!(
         "records with 52",
         "reading.rs",
-        &[
-            ("if met.code != OVERLOAD {\n            size", "if true {\n            size"),
-            ("if met.code != OVERLOAD {\n            at", "if true {\n            at"),
-        ],
+        "if met.code != OVERLOAD {\n            places",
+        "if true {\n            places",
     ),
-    variant!("no room for the exact sheet", "reading.rs", "if size > sheet.len() {", "if size >= sheet.len() {"),
+    variant!("no room for the exact sheet", "reading.rs", "sheet.get_mut(..size)", "sheet.get_mut(..size + 1)"),
     variant!(
         "rest of the lent sheet becomes zero",
         "reading.rs",
@@ -184,15 +182,15 @@ const VARIANTS: &[Variant] = &[
     variant!(
         "refused sheet is begun",
         "reading.rs",
-        "    if size > sheet.len() {\n",
-        "    if size > sheet.len() {\n        sheet.iter_mut().take(1).for_each(|byte| *byte ^= 1);\n",
+        "    let Some(mut room) = sheet",
+        "    if size > sheet.len() {\n        sheet.iter_mut().take(1).for_each(|byte| *byte ^= 1);\n    }\n    \
+         let Some(mut room) = sheet",
     ),
     variant!("records' place on refusal", "reading.rs", "refuse(11, sheet.len())", "refuse(11, size)"),
     variant!(
         "record lengths with the low byte first",
         "reading.rs",
-        "&[code, length[0], length[1]]",
-        "&[code, length[1], length[0]]",
+        &[("record[1] = 0", "record[1] = option[1]"), ("record[2] = option[1]", "record[2] = 0")],
     ),
     // Kinds.
     variant!("68 of length 0", "kinds.rs", " || code == 68)", ")"),
@@ -249,35 +247,32 @@ const VARIANTS: &[Variant] = &[
     ),
     variant!("sheet of 4096 refused", "writing.rs", "sheet.len() > LONGEST_SHEET", "sheet.len() >= LONGEST_SHEET"),
     variant!("sheet of 4097 written", "writing.rs", "LONGEST_SHEET: usize = 4096", "LONGEST_SHEET: usize = 4097"),
-    variant!(
-        "a cut head ends the sheet",
-        "writing.rs",
-        "while at < sheet.len() {",
-        "while at + 3 <= sheet.len() {",
-    ),
+    variant!("a cut head ends the sheet", "writing.rs", "while !rest.is_empty() {", "while rest.len() >= 3 {"),
     variant!(
         "10 before 12",
         "writing.rs",
-        "    let Some(record) = record_at",
-        "    if matches!(sheet[at], PAD | OVERLOAD | END) {\n        return refuse(10, at);\n    }\n    let Some(record) = record_at",
+        "    let Some((record, rest)) = split_record(sheet) else {",
+        "    if matches!(sheet[0], PAD | OVERLOAD | END) {\n        return refuse(10, place);\n    }\n    \
+         let Some((record, rest)) = split_record(sheet) else {",
     ),
     variant!(
         "13 before 12",
         "writing.rs",
-        "    let Some(record) = record_at",
-        "    if sheet.len() - at >= 3 && sheet[at + 1] != 0 {\n        return refuse(13, at);\n    }\n    let Some(record) = record_at",
+        "    let Some((record, rest)) = split_record(sheet) else {",
+        "    if sheet.len() >= 3 && sheet[1] != 0 {\n        return refuse(13, place);\n    }\n    \
+         let Some((record, rest)) = split_record(sheet) else {",
     ),
     variant!(
         "13 before 10",
         "writing.rs",
         "    if matches!(record.tag",
-        "    if record.data.len() > 255 {\n        return refuse(13, at);\n    }\n    if matches!(record.tag",
+        "    if record.data.len() > 255 {\n        return refuse(13, place);\n    }\n    if matches!(record.tag",
     ),
     variant!(
         "7 before 13",
         "writing.rs",
         "    if record.data.len() > 255 {",
-        "    if tags.has(record.tag) {\n        return refuse(7, at);\n    }\n    if record.data.len() > 255 {",
+        "    if tags.has(record.tag) {\n        return refuse(7, place);\n    }\n    if record.data.len() > 255 {",
     ),
     variant!(
         "8 and 9 before 7",
@@ -285,7 +280,7 @@ const VARIANTS: &[Variant] = &[
         "    if !tags.add(record.tag) {",
         "    if let Some(kind) = kinds::kind_of(record.tag) {\n        \
          if let Err(fault) = kinds::judge(kind, record.tag, record.data) {\n            \
-         return refuse(fault.number(), at);\n        }\n    }\n    if !tags.add(record.tag) {",
+         return refuse(fault.number(), place);\n        }\n    }\n    if !tags.add(record.tag) {",
     ),
     variant!("tag 52 is written", "writing.rs", "PAD | OVERLOAD | END", "PAD | END"),
     variant!("256 bytes of data", "writing.rs", "record.data.len() > 255", "record.data.len() > 256"),
@@ -308,7 +303,7 @@ const VARIANTS: &[Variant] = &[
         "14 at tag 1",
         "writing.rs",
         "1 => tag_3_before_1 = tag_3,",
-        "1 => tag_3_before_1 = tag_3.map(|_| at),",
+        "1 => tag_3_before_1 = tag_3.map(|_| place),",
     ),
     // Writing: the plans.
     variant!("plans tried falling", "writing.rs", "_ => &[0, 1, 2, 3]", "_ => &[3, 2, 1, 0]"),
@@ -319,17 +314,20 @@ const VARIANTS: &[Variant] = &[
         "no byte kept for END",
         "writing.rs",
         &[
+            ("OPTIONS + size < buffer.len()", "OPTIONS + size <= buffer.len()"),
             ("used + size + 1 > room", "used + size > room"),
             ("    room[used] = END;\n", "    room[used..].iter_mut().take(1).for_each(|byte| *byte = END);\n"),
             ("room[used + 1..].fill(0)", "room[used..].iter_mut().skip(1).for_each(|byte| *byte = 0)"),
         ],
     ),
     variant!("a byte more kept", "writing.rs", "used + size + 1 > room", "used + size + 2 > room"),
+    variant!("plan 0 needs a byte more", "writing.rs", "OPTIONS + size <", "OPTIONS + size + 1 <"),
     variant!(
         "empty sheet in 240 bytes",
         "writing.rs",
         &[
-            ("first_free(plan) >= length", "first_free(plan) > length"),
+            ("OPTIONS + size < buffer.len()", "OPTIONS + size < buffer.len() || size == 0"),
+            ("if free >= after {", "if free > after {"),
             ("    room[used] = END;\n", "    room[used..].iter_mut().take(1).for_each(|byte| *byte = END);\n"),
             ("room[used + 1..].fill(0)", "room[used..].iter_mut().skip(1).for_each(|byte| *byte = 0)"),
         ],
@@ -346,29 +344,28 @@ const VARIANTS: &[Variant] = &[
     variant!(
         "unused fields become zero",
         "writing.rs",
-        "    let mut at = 0;\n    for (first, after) in fields(plan, length) {\n        let free = if first == OPTIONS { first_free(plan) } else { first };\n        at = put_field",
-        "    let mut at = 0;\n    if plan == 0 {\n        buffer[SNAME..COOKIE].fill(0);\n    }\n    \
-         for (first, after) in fields(plan, length) {\n        let free = if first == OPTIONS { first_free(plan) } else { first };\n        at = put_field",
+        "    // \"The cookie is written.\"\n",
+        "    if plan == 0 {\n        buffer[SNAME..COOKIE].fill(0);\n    }\n",
     ),
     variant!(
         "header becomes zero",
         "writing.rs",
-        "    let length = buffer.len();\n    // \"The cookie",
-        "    let length = buffer.len();\n    buffer[..SNAME].fill(0);\n    // \"The cookie",
+        "    // \"The cookie is written.\"\n",
+        "    buffer[..SNAME].fill(0);\n",
     ),
     variant!(
         "52 last",
         "writing.rs",
-        "        at = put_field(sheet, at, &mut buffer[free..after]);\n    }\n",
-        "        at = put_field(sheet, at, &mut buffer[free..after]);\n    }\n    if plan != 0 {\n        \
-         let (_, used) = fill(sheet, 0, length - OPTIONS - 3, |_, _| ());\n        \
+        "        rest = put_field(rest, &mut buffer[free..after]);\n    }\n",
+        "        rest = put_field(rest, &mut buffer[free..after]);\n    }\n    if plan != 0 {\n        \
+         let (_, used) = fill(sheet, buffer.len() - OPTIONS - 3, |_, _| ());\n        \
          buffer[OPTIONS..OPTIONS + 3 + used].rotate_left(3);\n    }\n",
     ),
     variant!(
         "sname is filled before file",
         "writing.rs",
-        "[options, file, sname]",
-        "[options, sname, file]",
+        "(plan & 1 != 0, FILE, COOKIE), (plan & 2 != 0, SNAME, FILE)",
+        "(plan & 2 != 0, SNAME, FILE), (plan & 1 != 0, FILE, COOKIE)",
     ),
     variant!(
         "going back to an earlier field",
@@ -377,25 +374,23 @@ const VARIANTS: &[Variant] = &[
             (
                 "fn fits(sheet: &[u8], plan: u8, length: usize) -> bool {\n",
                 "fn lay(sheet: &[u8], plan: u8, buffer: &mut [u8]) -> bool {
-    let mut free = [first_free(plan), FILE, SNAME];
-    let after = [buffer.len(), COOKIE, FILE];
-    let used = |i: usize| i == 0 || plan >> (i - 1) & 1 != 0;
-    if free[0] >= after[0] {
+    let mut rooms: Vec<(usize, usize)> = rooms(plan, buffer.len()).collect();
+    if rooms[0].0 >= rooms[0].1 {
         return false;
     }
-    let mut at = 0;
-    while let Some(record) = record_at(sheet, at) {
+    let mut left = sheet;
+    while let Some((record, rest)) = split_record(left) {
         let size = 2 + record.data.len();
-        let Some(i) = (0..3).find(|&i| used(i) && free[i] + size < after[i]) else {
+        let Some(room) = rooms.iter_mut().find(|room| room.0 + size < room.1) else {
             return false;
         };
-        put_option(&record, &mut buffer[free[i]..]);
-        free[i] += size;
-        at += 3 + record.data.len();
+        put_option(&record, &mut buffer[room.0..]);
+        room.0 += size;
+        left = rest;
     }
-    for i in (0..3).filter(|&i| used(i)) {
-        buffer[free[i]] = END;
-        buffer[free[i] + 1..after[i]].fill(0);
+    for (free, after) in rooms {
+        buffer[free] = END;
+        buffer[free + 1..after].fill(0);
     }
     true
 }
@@ -405,10 +400,9 @@ fn fits(sheet: &[u8], plan: u8, length: usize) -> bool {
 ",
             ),
             (
-                "fn put_message(sheet: &[u8], buffer: &mut [u8], plan: u8) {\n    let length = buffer.len();\n",
-                "fn put_message(sheet: &[u8], buffer: &mut [u8], plan: u8) {\n    let length = buffer.len();\n    lay(sheet, plan, buffer);\n",
+                "        rest = put_field(rest, &mut buffer[free..after]);\n    }\n",
+                "    }\n    lay(sheet, plan, buffer);\n",
             ),
-            ("        at = put_field(sheet, at, &mut buffer[free..after]);\n", ""),
         ],
     ),
     variant!("place when nothing fits", "writing.rs", "None => refuse(11, buffer.len())", "None => refuse(11, 0)"),

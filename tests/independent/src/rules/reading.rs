@@ -14,6 +14,9 @@ pub const PAD: u8 = 0;
 pub const OVERLOAD: u8 = 52;
 pub const END: u8 = 255;
 
+/// Codes 1 to 254 without 52, each at most once.
+const MOST_RECORDS: usize = 253;
+
 /// An option met in a field. Its place is that of its code byte.
 #[derive(Clone, Copy)]
 pub struct Met {
@@ -194,32 +197,36 @@ pub fn present(message: &[u8]) -> Result<RollCall, Refusal> {
 }
 
 /// "every option but 52 in reading order, as records in a lent sheet; the
-/// answer is their length in bytes". One walk to judge and measure, as a
-/// refusal "changes no byte lent to the call", and one to write.
+/// answer is their length in bytes". As a refusal "changes no byte lent to the
+/// call", the walk keeps the places, and the records are put after it.
 pub fn records(message: &[u8], sheet: &mut [u8]) -> Result<usize, Refusal> {
+    let mut places = [0u16; MOST_RECORDS];
+    let mut count = 0;
     let mut size = 0;
     walk(message, |met| {
         if met.code != OVERLOAD {
+            places[count] = met.place as u16;
+            count += 1;
             size += 3 + met.length;
         }
     })?;
     // "last, for the sheet call, 11"
-    if size > sheet.len() {
+    let Some(mut room) = sheet.get_mut(..size) else {
         return refuse(11, sheet.len());
+    };
+    for &place in &places[..count] {
+        room = put_record(&message[usize::from(place)..], room);
     }
-    let mut at = 0;
-    walk(message, |met| {
-        if met.code != OVERLOAD {
-            at += put_record(met.code, met.data(message), &mut sheet[at..]);
-        }
-    })?;
     Ok(size)
 }
 
-/// "one-byte tag (the code), two-byte length, data"
-fn put_record(code: u8, data: &[u8], room: &mut [u8]) -> usize {
-    let length = (data.len() as u16).to_be_bytes();
-    room[..3].copy_from_slice(&[code, length[0], length[1]]);
-    room[3..][..data.len()].copy_from_slice(data);
-    3 + data.len()
+/// "one-byte tag (the code), two-byte length, data". Gives the room after it.
+fn put_record<'r>(option: &[u8], room: &'r mut [u8]) -> &'r mut [u8] {
+    let length = usize::from(option[1]);
+    let (record, rest) = room.split_at_mut(3 + length);
+    record[0] = option[0];
+    record[1] = 0;
+    record[2] = option[1];
+    record[3..].copy_from_slice(&option[2..2 + length]);
+    rest
 }

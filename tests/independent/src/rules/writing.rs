@@ -12,22 +12,29 @@ struct Record<'s> {
     data: &'s [u8],
 }
 
-/// The record at a place of the sheet, or nothing when its "record head or
+/// The first record of a sheet and the rest, or nothing when "record head or
 /// data" is "beyond the sheet".
-fn record_at(sheet: &[u8], at: usize) -> Option<Record<'_>> {
-    let head = sheet.get(at..at + 3)?;
-    let length = usize::from(u16::from_be_bytes([head[1], head[2]]));
-    let data = sheet.get(at + 3..at + 3 + length)?;
-    Some(Record { tag: head[0], data })
+fn split_record(sheet: &[u8]) -> Option<(Record<'_>, &[u8])> {
+    let [tag, high, low, rest @ ..] = sheet else {
+        return None;
+    };
+    let length = usize::from(u16::from_be_bytes([*high, *low]));
+    let (data, rest) = rest.split_at_checked(length)?;
+    Some((Record { tag: *tag, data }, rest))
 }
 
 /// Writes the sheet into the buffer by the first permitted plan that fits,
 /// and gives the plan's number.
 pub fn write(sheet: &[u8], buffer: &mut [u8], permission: u8) -> Result<u8, Refusal> {
     check_sizes(sheet, buffer, permission)?;
-    judge_sheet(sheet)?;
+    let size = judge_sheet(sheet)?;
+    let fits = |plan| match plan {
+        // One field: the sum tells.
+        0 => OPTIONS + size < buffer.len(),
+        _ => fits(sheet, plan, buffer.len()),
+    };
     // "The first that fits is used, and its number is the answer."
-    match permitted(permission).iter().find(|&&plan| fits(sheet, plan, buffer.len())) {
+    match permitted(permission).iter().find(|&&plan| fits(plan)) {
         Some(&plan) => {
             put_message(sheet, buffer, plan);
             Ok(plan)
@@ -54,48 +61,56 @@ fn check_sizes(sheet: &[u8], buffer: &[u8], permission: u8) -> Result<(), Refusa
     Ok(())
 }
 
-/// "then the first faulty record, [...] then 14"
-fn judge_sheet(sheet: &[u8]) -> Result<(), Refusal> {
+/// "then the first faulty record, [...] then 14". Gives what the sheet's
+/// options take: "One option takes 2 bytes more than its data."
+fn judge_sheet(sheet: &[u8]) -> Result<usize, Refusal> {
+    let mut size = 0;
     let mut tags = Codes::default();
     let mut tag_3 = None;
     let mut tag_3_before_1 = None;
-    let mut at = 0;
-    while at < sheet.len() {
-        let record = judge_record(sheet, at, &mut tags)?;
+    let mut rest = sheet;
+    while !rest.is_empty() {
+        let place = sheet.len() - rest.len();
+        let record;
+        (record, rest) = judge_record(rest, place, &mut tags)?;
         match record.tag {
             1 => tag_3_before_1 = tag_3,
-            3 => tag_3 = Some(at),
+            3 => tag_3 = Some(place),
             _ => (),
         }
-        at += 3 + record.data.len();
+        size += 2 + record.data.len();
     }
     // "14: tag 3 stands before tag 1"
     match tag_3_before_1 {
         Some(place) => refuse(14, place),
-        None => Ok(()),
+        None => Ok(size),
     }
 }
 
 /// "at one record 12, 10, 13, 7, 8, 9"
-fn judge_record<'s>(sheet: &'s [u8], at: usize, tags: &mut Codes) -> Result<Record<'s>, Refusal> {
-    let Some(record) = record_at(sheet, at) else {
-        return refuse(12, at);
+fn judge_record<'s>(
+    sheet: &'s [u8],
+    place: usize,
+    tags: &mut Codes,
+) -> Result<(Record<'s>, &'s [u8]), Refusal> {
+    let Some((record, rest)) = split_record(sheet) else {
+        return refuse(12, place);
     };
     if matches!(record.tag, PAD | OVERLOAD | END) {
-        return refuse(10, at);
+        return refuse(10, place);
     }
     if record.data.len() > 255 {
-        return refuse(13, at);
+        return refuse(13, place);
     }
     if !tags.add(record.tag) {
-        return refuse(7, at);
+        return refuse(7, place);
     }
     if let Some(kind) = kinds::kind_of(record.tag) {
         if let Err(fault) = kinds::judge(kind, record.tag, record.data) {
-            return refuse(fault.number(), at);
+            return refuse(fault.number(), place);
         }
     }
-    Ok(record)
+    Ok((record, rest))
 }
 
 /// "the permitted ones are 0; 0, 1; 0, 2; or 0, 1, 2, 3, tried rising"
@@ -108,52 +123,36 @@ fn permitted(permission: u8) -> &'static [u8] {
     }
 }
 
-/// The fields of a plan in reading order, each from its first byte to the
-/// byte after it.
-fn fields(plan: u8, length: usize) -> impl Iterator<Item = (usize, usize)> {
-    let options = Some((OPTIONS, length));
-    let file = (plan & 1 != 0).then_some((FILE, COOKIE));
-    let sname = (plan & 2 != 0).then_some((SNAME, FILE));
-    [options, file, sname].into_iter().flatten()
-}
-
-/// The first byte of options that is free for records.
-fn first_free(plan: u8) -> usize {
+/// The room of a plan's fields in reading order: the first byte that is free
+/// for records, and the byte after the field.
+fn rooms(plan: u8, length: usize) -> impl Iterator<Item = (usize, usize)> {
     // "Any other puts option 52 first there (three bytes)."
-    if plan == 0 {
-        OPTIONS
-    } else {
-        OPTIONS + 3
-    }
+    let options = if plan == 0 { OPTIONS } else { OPTIONS + 3 };
+    let rooms =
+        [(true, options, length), (plan & 1 != 0, FILE, COOKIE), (plan & 2 != 0, SNAME, FILE)];
+    rooms.into_iter().filter(|room| room.0).map(|room| (room.1, room.2))
 }
 
 /// Whether the records fit into the plan's fields.
 fn fits(sheet: &[u8], plan: u8, length: usize) -> bool {
-    // END has to fit into options, after 52 if that is there; file and sname have room for it.
-    if first_free(plan) >= length {
-        return false;
+    let mut rest = sheet;
+    for (free, after) in rooms(plan, length) {
+        // END has to fit, also without a record.
+        if free >= after {
+            return false;
+        }
+        rest = fill(rest, after - free, |_, _| ()).0;
     }
-    let mut at = 0;
-    for (first, after) in fields(plan, length) {
-        let free = if first == OPTIONS { first_free(plan) } else { first };
-        at = fill(sheet, at, after - free, |_, _| ()).0;
-    }
-    at == sheet.len()
+    rest.is_empty()
 }
 
 /// "Records go in sheet order into the current field while each fits with one
-/// byte kept for END". Takes records from a place of the sheet on, gives each to
-/// `put` with its place in the room, and gives the next record's place and the
-/// room used.
-fn fill(
-    sheet: &[u8],
-    from: usize,
-    room: usize,
-    mut put: impl FnMut(usize, &Record),
-) -> (usize, usize) {
-    let mut at = from;
+/// byte kept for END". Gives each record to `put` with its place in the room;
+/// gives the records that are left, and the room used.
+fn fill(sheet: &[u8], room: usize, mut put: impl FnMut(usize, &Record)) -> (&[u8], usize) {
+    let mut left = sheet;
     let mut used = 0;
-    while let Some(record) = record_at(sheet, at) {
+    while let Some((record, rest)) = split_record(left) {
         // "One option takes 2 bytes more than its data."
         let size = 2 + record.data.len();
         if used + size + 1 > room {
@@ -161,40 +160,39 @@ fn fill(
         }
         put(used, &record);
         used += size;
-        at += 3 + record.data.len();
+        left = rest;
     }
-    (at, used)
+    (left, used)
 }
 
 /// Writes by a plan that fits. "The header and each unused one of file and
 /// sname stay as they were."
 fn put_message(sheet: &[u8], buffer: &mut [u8], plan: u8) {
-    let length = buffer.len();
     // "The cookie is written."
     buffer[COOKIE..OPTIONS].copy_from_slice(&COOKIE_BYTES);
     if plan != 0 {
         buffer[OPTIONS..OPTIONS + 3].copy_from_slice(&[OVERLOAD, 1, plan]);
     }
-    let mut at = 0;
-    for (first, after) in fields(plan, length) {
-        let free = if first == OPTIONS { first_free(plan) } else { first };
-        at = put_field(sheet, at, &mut buffer[free..after]);
+    let mut rest = sheet;
+    for (free, after) in rooms(plan, buffer.len()) {
+        rest = put_field(rest, &mut buffer[free..after]);
     }
 }
 
-/// Fills a field's room and gives the next record's place. "Every field of the
+/// Fills a field's room; gives the records that are left. "Every field of the
 /// plan gets its END; the rest of that field becomes zero."
-fn put_field(sheet: &[u8], from: usize, room: &mut [u8]) -> usize {
-    let (next, used) = fill(sheet, from, room.len(), |place, record| {
+fn put_field<'s>(sheet: &'s [u8], room: &mut [u8]) -> &'s [u8] {
+    let (left, used) = fill(sheet, room.len(), |place, record| {
         put_option(record, &mut room[place..]);
     });
     room[used] = END;
     room[used + 1..].fill(0);
-    next
+    left
 }
 
 fn put_option(record: &Record, room: &mut [u8]) {
-    room[0] = record.tag;
-    room[1] = record.data.len() as u8;
-    room[2..][..record.data.len()].copy_from_slice(record.data);
+    let (option, _) = room.split_at_mut(2 + record.data.len());
+    option[0] = record.tag;
+    option[1] = record.data.len() as u8;
+    option[2..].copy_from_slice(record.data);
 }

@@ -306,32 +306,44 @@ const VARIANTS: &[Variant] = &[
         "1 => tag_3_before_1 = tag_3.map(|_| place),",
     ),
     // Writing: the plans.
-    variant!("plans tried falling", "writing.rs", "_ => &[0, 1, 2, 3]", "_ => &[3, 2, 1, 0]"),
-    variant!("plan 2 before 1", "writing.rs", "_ => &[0, 1, 2, 3]", "_ => &[0, 2, 1, 3]"),
-    variant!("plan 3 is not tried", "writing.rs", "_ => &[0, 1, 2, 3]", "_ => &[0, 1, 2]"),
-    variant!("permission 2 permits 1", "writing.rs", "2 => &[0, 2]", "2 => &[0, 1]"),
+    variant!("plans tried falling", "writing.rs", "_ => &[1, 2, 3]", "_ => &[3, 2, 1]"),
+    variant!("plan 2 before 1", "writing.rs", "_ => &[1, 2, 3]", "_ => &[2, 1, 3]"),
+    variant!("plan 3 is not tried", "writing.rs", "_ => &[1, 2, 3]", "_ => &[1, 2]"),
+    variant!("plan 0 is not tried", "writing.rs", "OPTIONS + size < length", "OPTIONS + size < length && permission == 0"),
+    variant!("permission 0 permits 1", "writing.rs", "0 => &[]", "0 => &[1]"),
+    variant!("permission 2 permits 1", "writing.rs", "2 => &[2]", "2 => &[1]"),
     variant!(
         "no byte kept for END",
         "writing.rs",
         &[
-            ("OPTIONS + size < buffer.len()", "OPTIONS + size <= buffer.len()"),
+            ("OPTIONS + size < length", "OPTIONS + size <= length"),
             ("used + size + 1 > room", "used + size > room"),
             ("    room[used] = END;\n", "    room[used..].iter_mut().take(1).for_each(|byte| *byte = END);\n"),
             ("room[used + 1..].fill(0)", "room[used..].iter_mut().skip(1).for_each(|byte| *byte = 0)"),
         ],
     ),
     variant!("a byte more kept", "writing.rs", "used + size + 1 > room", "used + size + 2 > room"),
-    variant!("plan 0 needs a byte more", "writing.rs", "OPTIONS + size <", "OPTIONS + size + 1 <"),
+    variant!("plan 0 needs a byte more", "writing.rs", "OPTIONS + size < length", "OPTIONS + size + 1 < length"),
     variant!(
         "empty sheet in 240 bytes",
         "writing.rs",
         &[
-            ("OPTIONS + size < buffer.len()", "OPTIONS + size < buffer.len() || size == 0"),
-            ("if free >= after {", "if free > after {"),
+            ("OPTIONS + size < length", "OPTIONS + size < length || size == 0"),
             ("    room[used] = END;\n", "    room[used..].iter_mut().take(1).for_each(|byte| *byte = END);\n"),
             ("room[used + 1..].fill(0)", "room[used..].iter_mut().skip(1).for_each(|byte| *byte = 0)"),
         ],
     ),
+    variant!(
+        "52 without END in 243 bytes",
+        "writing.rs",
+        &[
+            ("OVERLOADED >= length", "OVERLOADED > length"),
+            ("    room[used] = END;\n", "    room[used..].iter_mut().take(1).for_each(|byte| *byte = END);\n"),
+            ("room[used + 1..].fill(0)", "room[used..].iter_mut().skip(1).for_each(|byte| *byte = 0)"),
+        ],
+    ),
+    variant!("overloading needs 245 bytes", "writing.rs", "OVERLOADED >= length", "OVERLOADED + 1 >= length"),
+    variant!("options takes no record when overloaded", "writing.rs", "fill(sheet, length - OVERLOADED,", "fill(sheet, length - length,"),
     // Of a plan that is used, options alone can be without a record.
     variant!(
         "a field of the plan without a record gets no END",
@@ -356,27 +368,32 @@ const VARIANTS: &[Variant] = &[
     variant!(
         "52 last",
         "writing.rs",
-        "        rest = put_field(rest, &mut buffer[free..after]);\n    }\n",
-        "        rest = put_field(rest, &mut buffer[free..after]);\n    }\n    if plan != 0 {\n        \
-         let (_, used) = fill(sheet, buffer.len() - OPTIONS - 3, |_, _| ());\n        \
-         buffer[OPTIONS..OPTIONS + 3 + used].rotate_left(3);\n    }\n",
+        "        put_field(left, &mut buffer[SNAME..FILE]);\n    }\n",
+        "        put_field(left, &mut buffer[SNAME..FILE]);\n    }\n    \
+         let (_, used) = fill(sheet, buffer.len() - OVERLOADED, |_, _| ());\n    \
+         buffer[OPTIONS..OVERLOADED + used].rotate_left(3);\n",
     ),
     variant!(
         "sname is filled before file",
         "writing.rs",
-        "(plan & 1 != 0, FILE, COOKIE), (plan & 2 != 0, SNAME, FILE)",
-        "(plan & 2 != 0, SNAME, FILE), (plan & 1 != 0, FILE, COOKIE)",
+        "    if plan & 1 != 0 {\n        left = put_field",
+        "    if plan == 3 {\n        left = put_field(left, &mut buffer[SNAME..FILE]);\n        \
+         put_field(left, &mut buffer[FILE..COOKIE]);\n        return;\n    }\n    \
+         if plan & 1 != 0 {\n        left = put_field",
     ),
     variant!(
         "going back to an earlier field",
         "writing.rs",
         &[
             (
-                "fn fits(sheet: &[u8], plan: u8, length: usize) -> bool {\n",
+                "fn takes(plan: u8, mut left: &[u8]) -> bool {\n",
                 "fn lay(sheet: &[u8], plan: u8, buffer: &mut [u8]) -> bool {
-    let mut rooms: Vec<(usize, usize)> = rooms(plan, buffer.len()).collect();
-    if rooms[0].0 >= rooms[0].1 {
-        return false;
+    let mut rooms = vec![(OVERLOADED, buffer.len()), (FILE, COOKIE), (SNAME, FILE)];
+    if plan & 2 == 0 {
+        rooms.remove(2);
+    }
+    if plan & 1 == 0 {
+        rooms.remove(1);
     }
     let mut left = sheet;
     while let Some((record, rest)) = split_record(left) {
@@ -395,15 +412,16 @@ const VARIANTS: &[Variant] = &[
     true
 }
 
-fn fits(sheet: &[u8], plan: u8, length: usize) -> bool {
-    return lay(sheet, plan, &mut [0; LONGEST][..length]);
+fn takes(plan: u8, mut left: &[u8]) -> bool {
 ",
             ),
+            ("plans.find(|&plan| takes(plan, left))", "plans.find(|&plan| lay(sheet, plan, &mut [0; LONGEST][..length]))"),
             (
-                "        rest = put_field(rest, &mut buffer[free..after]);\n    }\n",
-                "    }\n    lay(sheet, plan, buffer);\n",
+                "    let mut left = put_field(sheet, &mut buffer[OVERLOADED..]);\n",
+                "    if lay(sheet, plan, buffer) {\n        return;\n    }\n    \
+                 let mut left = put_field(sheet, &mut buffer[OVERLOADED..]);\n",
             ),
         ],
     ),
-    variant!("place when nothing fits", "writing.rs", "None => refuse(11, buffer.len())", "None => refuse(11, 0)"),
+    variant!("place when nothing fits", "writing.rs", "refuse(11, buffer.len())", "refuse(11, size)"),
 ];

@@ -20,8 +20,23 @@ impl Fault {
     }
 }
 
-/// The row of a code. "Codes 62, 63 and 77 to 254 have no row."
+/// The row of a code.
 pub fn kind_of(code: u8) -> Option<Kind> {
+    ROWS[usize::from(code)]
+}
+
+static ROWS: [Option<Kind>; 256] = {
+    let mut rows = [None; 256];
+    let mut code = 0;
+    while code < 256 {
+        rows[code] = row(code as u8);
+        code += 1;
+    }
+    rows
+};
+
+/// "Codes 62, 63 and 77 to 254 have no row."
+const fn row(code: u8) -> Option<Kind> {
     match code {
         1 | 16 | 28 | 32 | 50 | 54 => Some(Kind::Address),
         3..=11 | 41 | 42 | 44 | 45 | 48 | 49 | 65 | 68 | 69..=76 => Some(Kind::AddressList),

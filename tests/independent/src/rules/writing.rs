@@ -6,6 +6,9 @@ use super::reading::{COOKIE, COOKIE_BYTES, END, FILE, LONGEST, OPTIONS, OVERLOAD
 
 pub const LONGEST_SHEET: usize = 4096;
 
+/// Where records begin in options after option 52.
+const OVERLOADED: usize = OPTIONS + 3;
+
 /// "one-byte tag (the code), two-byte length, data"
 struct Record<'s> {
     tag: u8,
@@ -28,19 +31,11 @@ fn split_record(sheet: &[u8]) -> Option<(Record<'_>, &[u8])> {
 pub fn write(sheet: &[u8], buffer: &mut [u8], permission: u8) -> Result<u8, Refusal> {
     check_sizes(sheet, buffer, permission)?;
     let size = judge_sheet(sheet)?;
-    let fits = |plan| match plan {
-        // One field: the sum tells.
-        0 => OPTIONS + size < buffer.len(),
-        _ => fits(sheet, plan, buffer.len()),
+    let Some(plan) = choose(sheet, size, buffer.len(), permission) else {
+        return refuse(11, buffer.len());
     };
-    // "The first that fits is used, and its number is the answer."
-    match permitted(permission).iter().find(|&&plan| fits(plan)) {
-        Some(&plan) => {
-            put_message(sheet, buffer, plan);
-            Ok(plan)
-        }
-        None => refuse(11, buffer.len()),
-    }
+    put_message(sheet, buffer, plan);
+    Ok(plan)
 }
 
 /// "Writing: 1, 2, 15, 16"
@@ -113,37 +108,42 @@ fn judge_record<'s>(
     Ok((record, rest))
 }
 
-/// "the permitted ones are 0; 0, 1; 0, 2; or 0, 1, 2, 3, tried rising"
-fn permitted(permission: u8) -> &'static [u8] {
+/// "the permitted ones are 0; 0, 1; 0, 2; or 0, 1, 2, 3, tried rising": those
+/// after 0.
+fn permitted_after_0(permission: u8) -> &'static [u8] {
     match permission {
-        0 => &[0],
-        1 => &[0, 1],
-        2 => &[0, 2],
-        _ => &[0, 1, 2, 3],
+        0 => &[],
+        1 => &[1],
+        2 => &[2],
+        _ => &[1, 2, 3],
     }
 }
 
-/// The room of a plan's fields in reading order: the first byte that is free
-/// for records, and the byte after the field.
-fn rooms(plan: u8, length: usize) -> impl Iterator<Item = (usize, usize)> {
-    // "Any other puts option 52 first there (three bytes)."
-    let options = if plan == 0 { OPTIONS } else { OPTIONS + 3 };
-    let rooms =
-        [(true, options, length), (plan & 1 != 0, FILE, COOKIE), (plan & 2 != 0, SNAME, FILE)];
-    rooms.into_iter().filter(|room| room.0).map(|room| (room.1, room.2))
+/// "The first that fits is used, and its number is the answer." The options of
+/// all records take `size` bytes.
+fn choose(sheet: &[u8], size: usize, length: usize, permission: u8) -> Option<u8> {
+    // "Plan 0 uses the options field alone."
+    if OPTIONS + size < length {
+        return Some(0);
+    }
+    // Options begin alike in the others, and END has to fit there.
+    if OVERLOADED >= length {
+        return None;
+    }
+    let left = fill(sheet, length - OVERLOADED, |_, _| ()).0;
+    let mut plans = permitted_after_0(permission).iter().copied();
+    plans.find(|&plan| takes(plan, left))
 }
 
-/// Whether the records fit into the plan's fields.
-fn fits(sheet: &[u8], plan: u8, length: usize) -> bool {
-    let mut rest = sheet;
-    for (free, after) in rooms(plan, length) {
-        // END has to fit, also without a record.
-        if free >= after {
-            return false;
-        }
-        rest = fill(rest, after - free, |_, _| ()).0;
+/// Whether the plan's file and sname take the records left by options.
+fn takes(plan: u8, mut left: &[u8]) -> bool {
+    if plan & 1 != 0 {
+        left = fill(left, COOKIE - FILE, |_, _| ()).0;
     }
-    rest.is_empty()
+    if plan & 2 != 0 {
+        left = fill(left, FILE - SNAME, |_, _| ()).0;
+    }
+    left.is_empty()
 }
 
 /// "Records go in sheet order into the current field while each fits with one
@@ -170,12 +170,18 @@ fn fill(sheet: &[u8], room: usize, mut put: impl FnMut(usize, &Record)) -> (&[u8
 fn put_message(sheet: &[u8], buffer: &mut [u8], plan: u8) {
     // "The cookie is written."
     buffer[COOKIE..OPTIONS].copy_from_slice(&COOKIE_BYTES);
-    if plan != 0 {
-        buffer[OPTIONS..OPTIONS + 3].copy_from_slice(&[OVERLOAD, 1, plan]);
+    if plan == 0 {
+        put_field(sheet, &mut buffer[OPTIONS..]);
+        return;
     }
-    let mut rest = sheet;
-    for (free, after) in rooms(plan, buffer.len()) {
-        rest = put_field(rest, &mut buffer[free..after]);
+    // "Any other puts option 52 first there (three bytes)."
+    buffer[OPTIONS..OVERLOADED].copy_from_slice(&[OVERLOAD, 1, plan]);
+    let mut left = put_field(sheet, &mut buffer[OVERLOADED..]);
+    if plan & 1 != 0 {
+        left = put_field(left, &mut buffer[FILE..COOKIE]);
+    }
+    if plan & 2 != 0 {
+        put_field(left, &mut buffer[SNAME..FILE]);
     }
 }
 

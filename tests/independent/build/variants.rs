@@ -57,6 +57,10 @@ const VARIANTS: &[Variant] = &[
          walk_field(message, FILE, COOKIE, &mut codes, &mut meet)?;\n        return Ok(codes);\n    }\n    \
          if overload & 1 != 0 {\n",
     ),
+    variant!("file ends a byte early", "reading.rs", "FILE, COOKIE,", "FILE, COOKIE - 1,"),
+    variant!("file runs into the cookie", "reading.rs", "FILE, COOKIE,", "FILE, OPTIONS,"),
+    variant!("sname ends a byte early", "reading.rs", "SNAME, FILE,", "SNAME, FILE - 1,"),
+    variant!("sname runs into file", "reading.rs", "SNAME, FILE,", "SNAME, COOKIE,"),
     variant!(
         "stops at 255 in data",
         "reading.rs",
@@ -344,6 +348,10 @@ const VARIANTS: &[Variant] = &[
     ),
     variant!("overloading needs 245 bytes", "writing.rs", "OVERLOADED >= length", "OVERLOADED + 1 >= length"),
     variant!("options takes no record when overloaded", "writing.rs", "fill(sheet, length - OVERLOADED,", "fill(sheet, length - length,"),
+    variant!("file takes a byte less", "writing.rs", "fill(left, COOKIE - FILE,", "fill(left, COOKIE - FILE - 1,"),
+    variant!("file takes a byte more", "writing.rs", "fill(left, COOKIE - FILE,", "fill(left, COOKIE - FILE + 1,"),
+    variant!("sname takes a byte less", "writing.rs", "fill(left, FILE - SNAME,", "fill(left, FILE - SNAME - 1,"),
+    variant!("sname takes a byte more", "writing.rs", "fill(left, FILE - SNAME,", "fill(left, FILE - SNAME + 1,"),
     // Of a plan that is used, options alone can be without a record.
     variant!(
         "a field of the plan without a record gets no END",

@@ -1,0 +1,435 @@
+// Wrong variants of the rules: in a copy of one file of src/rules one piece of
+// text is taken for another. Each is to be told from the library.
+
+struct Variant {
+    name: &'static str,
+    file: &'static str,
+    edits: &'static [(&'static str, &'static str)],
+}
+
+macro_rules! variant {
+    ($name:expr, $file:expr, $from:expr, $to:expr $(,)?) => {
+        Variant { name: $name, file: $file, edits: &[($from, $to)] }
+    };
+    ($name:expr, $file:expr, $edits:expr $(,)?) => {
+        Variant { name: $name, file: $file, edits: $edits }
+    };
+}
+
+const VARIANTS: &[Variant] = &[
+    // Reading: the frame.
+    variant!("message of 240 refused", "reading.rs", "length < OPTIONS", "length <= OPTIONS"),
+    variant!("message of 1472 refused", "reading.rs", "length > LONGEST", "length >= LONGEST"),
+    variant!("message of 1473 read", "reading.rs", "LONGEST: usize = 1472", "LONGEST: usize = 1473"),
+    variant!(
+        "cookie not compared to its last byte",
+        "reading.rs",
+        "message[COOKIE..OPTIONS] != COOKIE_BYTES",
+        "message[COOKIE..OPTIONS - 1] != COOKIE_BYTES[..3]",
+    ),
+    variant!("cookie's place", "reading.rs", "refuse(3, COOKIE)", "refuse(3, 0)"),
+    // Reading: the fields.
+    variant!("file is not read", "reading.rs", "overload & 1 != 0", "overload & 4 != 0"),
+    variant!("sname is not read", "reading.rs", "overload & 2 != 0", "overload & 4 != 0"),
+    variant!(
+        "END in options ends the message",
+        "reading.rs",
+        "return Ok(overload);",
+        "return Ok(0);",
+    ),
+    variant!(
+        "file is read because it looks like options",
+        "reading.rs",
+        "overload & 1 != 0",
+        "overload & 1 != 0 || message[FILE] == 53",
+    ),
+    variant!(
+        "file and sname taken for each other",
+        "reading.rs",
+        "    if overload & 1 != 0 {\n        walk_field(message, FILE, COOKIE",
+        "    if overload & 1 != 0 {\n        walk_field(message, SNAME, FILE",
+    ),
+    variant!(
+        "sname before file",
+        "reading.rs",
+        "    if overload & 1 != 0 {\n",
+        "    if overload == 3 {\n        walk_field(message, SNAME, FILE, &mut codes, &mut meet)?;\n        \
+         walk_field(message, FILE, COOKIE, &mut codes, &mut meet)?;\n        return Ok(codes);\n    }\n    \
+         if overload & 1 != 0 {\n",
+    ),
+    variant!("file ends a byte early", "reading.rs", "FILE, COOKIE,", "FILE, COOKIE - 1,"),
+    variant!("file runs into the cookie", "reading.rs", "FILE, COOKIE,", "FILE, OPTIONS,"),
+    variant!("sname ends a byte early", "reading.rs", "SNAME, FILE,", "SNAME, FILE - 1,"),
+    variant!("sname runs into file", "reading.rs", "SNAME, FILE,", "SNAME, COOKIE,"),
+    variant!(
+        "stops at 255 in data",
+        "reading.rs",
+        "        meet(Met {",
+        "        if data.contains(&END) {\n            return Ok(overload);\n        }\n        meet(Met {",
+    ),
+    variant!(
+        "an unknown code's length byte skipped as a pad",
+        "reading.rs",
+        "if code == PAD {",
+        "if code == PAD || kinds::kind_of(code).is_none() && code != END {",
+    ),
+    variant!(
+        "options after END are read",
+        "reading.rs",
+        "        if code == END {\n            return Ok(overload);",
+        "        if code == END {\n            if field[place..].iter().all(|&byte| byte == 0 || byte == END) {\n                \
+         return Ok(overload);\n            }\n            place += 1;\n            continue;",
+    ),
+    variant!("the end of a field is an END", "reading.rs", "refuse(5, after)", "Ok(overload)"),
+    variant!("place of a field without END", "reading.rs", "refuse(5, after)", "refuse(5, after - 1)"),
+    variant!("place of data beyond the field", "reading.rs", "refuse(4, place)", "refuse(4, place + 1)"),
+    variant!(
+        "data beyond the field by one byte",
+        "reading.rs",
+        "if let Some(data) = field.get(place + 2..place + 2 + usize::from(length)) {",
+        "let after = place + 2 + usize::from(length);\n        \
+         if let Some(data) = field.get(place + 2..if after == field.len() + 1 { after - 1 } else { after }) {",
+    ),
+    variant!("repeated codes are accepted", "reading.rs", "if !codes.add(code) {", "if !codes.add(code) && false {"),
+    variant!(
+        "repeated codes are accepted from field to field",
+        "reading.rs",
+        "    let mut overload = 0;\n",
+        "    let mut overload = 0;\n    let codes = &mut { *codes };\n",
+    ),
+    variant!("52 in file is accepted", "reading.rs", "first == OPTIONS && ", ""),
+    variant!("52 of length 2", "reading.rs", "[value] if first", "[value, ..] if first"),
+    variant!(
+        "7 before 6",
+        "reading.rs",
+        "        if code == OVERLOAD {\n            overload",
+        "        if codes.has(code) {\n            return refuse(7, place);\n        }\n        \
+         if code == OVERLOAD {\n            overload",
+    ),
+    // Reading: the calls.
+    variant!("code 0 is absent", "reading.rs", "if code == PAD || code == END {", "if code == END {"),
+    variant!("code 255 is absent", "reading.rs", "if code == PAD || code == END {", "if code == PAD {"),
+    variant!(
+        "10 after 1",
+        "reading.rs",
+        "if code == PAD || code == END {",
+        "if (code == PAD || code == END) && message.len() >= OPTIONS {",
+    ),
+    variant!(
+        "the known set's words in another order",
+        "reading.rs",
+        "if known.has(met.code)",
+        "if known.has(met.code ^ 64)",
+    ),
+    variant!("every code is known", "reading.rs", "if known.has(met.code)", "if known.has(met.code) || true"),
+    variant!(
+        "52 is known always",
+        "reading.rs",
+        "if known.has(met.code)",
+        "if known.has(met.code) || met.code == OVERLOAD",
+    ),
+    variant!(
+        "zeros cut from data",
+        "reading.rs",
+        "Ok(Some(met)) if met.length > 0 => met.part(),",
+        "Ok(Some(met)) if kinds::text_length(met.data(message)) > 0 => {\n            \
+         Part { start: met.place + 2, length: kinds::text_length(met.data(message)) }\n        }",
+    ),
+    variant!("empty data keeps its start", "reading.rs", "if met.length > 0 => met.part()", "=> met.part()"),
+    variant!("text with its zeros", "reading.rs", "if kind == Kind::Text {", "if false {"),
+    variant!(
+        "text of opaque data",
+        "reading.rs",
+        "Ok(Lookup::Part(Kind::Text, part))",
+        "Ok(Lookup::Part(Kind::Text | Kind::Opaque, part))",
+    ),
+    variant!(
+        "left-over bytes are an address",
+        "reading.rs",
+        "    let bytes = list.get(at..next)?;\n",
+        "    let mut bytes = [0; 4];\n    let left = list.get(at..)?;\n    \
+         let count = left.len().min(4);\n    if count == 0 {\n        return None;\n    }\n    \
+         bytes[..count].copy_from_slice(&left[..count]);\n",
+    ),
+    variant!(
+        "the address walk repeats itself",
+        "reading.rs",
+        "    let bytes = list.get(at..next)?;\n",
+        "    let bytes = list.get(at..next)?;\n    let bytes = if at > 0 { &list[at - 4.min(at)..] } else { bytes };\n",
+    ),
+    variant!(
+        "roll call without 52",
+        "reading.rs",
+        "    let codes = walk(message, |_| ())?;\n",
+        "    let mut codes = walk(message, |_| ())?;\n    codes.0[0] &= !(1 << 52);\n",
+    ),
+    variant!("roll call's count off by one", "reading.rs", "count: codes.count()", "count: codes.count().max(1)"),
+    variant!(
+        "roll call's lowest of the last word",
+        "reading.rs",
+        "lowest: codes.lowest()",
+        "lowest: if codes.0[3] != 0 { 192 + codes.0[3].trailing_zeros() } else { codes.lowest() }",
+    ),
+    variant!(
+        "records with 52",
+        "reading.rs",
+        "if met.code != OVERLOAD {\n            places",
+        "if true {\n            places",
+    ),
+    variant!("no room for the exact sheet", "reading.rs", "sheet.get_mut(..size)", "sheet.get_mut(..size + 1)"),
+    variant!(
+        "rest of the lent sheet becomes zero",
+        "reading.rs",
+        "    Ok(size)\n",
+        "    sheet[size..].fill(0);\n    Ok(size)\n",
+    ),
+    variant!(
+        "refused sheet is begun",
+        "reading.rs",
+        "    let Some(mut room) = sheet",
+        "    if size > sheet.len() {\n        sheet.iter_mut().take(1).for_each(|byte| *byte ^= 1);\n    }\n    \
+         let Some(mut room) = sheet",
+    ),
+    variant!("records' place on refusal", "reading.rs", "refuse(11, sheet.len())", "refuse(11, size)"),
+    variant!(
+        "record lengths with the low byte first",
+        "reading.rs",
+        &[("record[1] = 0", "record[1] = option[1]"), ("record[2] = option[1]", "record[2] = 0")],
+    ),
+    // Kinds.
+    variant!("68 of length 0", "kinds.rs", " || code == 68)", ")"),
+    variant!("lists of length 0", "kinds.rs", "(length >= 4 || code == 68)", "true"),
+    variant!("61 of length 1", "kinds.rs", "if code == 61 { 2 } else { 1 }", "1"),
+    variant!("text of length 0", "kinds.rs", "Kind::Text => length >= 1", "Kind::Text => true"),
+    variant!("pairs by fours", "kinds.rs", "length.is_multiple_of(8)", "length.is_multiple_of(4)"),
+    variant!("16-bit lists of odd length", "kinds.rs", "length.is_multiple_of(2) && ", ""),
+    variant!("flags of 2", "kinds.rs", "data[0] <= 1", "data[0] <= 2"),
+    variant!("23 and 37 of 0", "kinds.rs", "23 | 37 => value >= 1", "23 | 37 => true"),
+    variant!("46 of 3", "kinds.rs", "1 | 2 | 4 | 8", "1 | 2 | 3 | 4 | 8"),
+    variant!("53 of 9", "kinds.rs", "_ => matches!(value, 1..=8)", "_ => matches!(value, 1..=9)"),
+    variant!("52 of 4", "kinds.rs", "matches!(value, 1..=3)", "matches!(value, 1..=4)"),
+    variant!("22 and 57 of 575", "kinds.rs", "22 | 57 => 576", "22 | 57 => 575"),
+    variant!("26 of 67", "kinds.rs", "26 => 68", "26 => 67"),
+    variant!("25 of 67", "kinds.rs", "let mut last = 68;", "let mut last = 67;"),
+    variant!("25 has to rise", "kinds.rs", "if value < last {", "if value < last || value == last && last > 68 {"),
+    variant!("25 may fall", "kinds.rs", "        last = value;\n", ""),
+    variant!("33's router is judged", "kinds.rs", "pair[..4] != [0; 4]", "pair[4..] != [0; 4]"),
+    variant!("33's first pair alone is judged", "kinds.rs", "data.chunks_exact(8).all", "data.chunks_exact(8).take(1).all"),
+    variant!("21 is judged as 33", "kinds.rs", "code != 33 || ", ""),
+    variant!("numbers with the low byte first", "kinds.rs", "u16::from_be_bytes", "u16::from_le_bytes"),
+    variant!("2 unsigned", "kinds.rs", "i64::from(number32(data) as i32)", "i64::from(number32(data))"),
+    variant!("51 signed", "kinds.rs", "Some(i64::from(number32(data)))", "Some(i64::from(number32(data) as i32))"),
+    variant!(
+        "text cut at its first zero",
+        "kinds.rs",
+        "data.iter().rposition(|&byte| byte != 0).map_or(0, |last| last + 1)",
+        "data.iter().position(|&byte| byte == 0).unwrap_or(data.len())",
+    ),
+    variant!(
+        "text without its last zero alone",
+        "kinds.rs",
+        "data.iter().rposition(|&byte| byte != 0).map_or(0, |last| last + 1)",
+        "data.len() - usize::from(data.last() == Some(&0))",
+    ),
+    variant!("77 is a list", "kinds.rs", "69..=76", "69..=77"),
+    variant!("63 is opaque", "kinds.rs", "60 | 61 => Some(Kind::Opaque)", "60 | 61 | 63 => Some(Kind::Opaque)"),
+    variant!("62 has a row", "kinds.rs", "64 | 66 | 67 => Some(Kind::Text)", "62 | 64 | 66 | 67 => Some(Kind::Text)"),
+    // Writing: the checks.
+    variant!("buffer of 1473 is written", "writing.rs", "length > LONGEST", "length > LONGEST + 1"),
+    variant!("permission 4", "writing.rs", "permission > 3", "permission > 4"),
+    variant!(
+        "15 before 1",
+        "writing.rs",
+        "    let length = buffer.len();\n    if length < OPTIONS",
+        "    let length = buffer.len();\n    if permission > 3 {\n        return refuse(15, 0);\n    }\n    if length < OPTIONS",
+    ),
+    variant!(
+        "16 before 15",
+        "writing.rs",
+        "    if permission > 3 {",
+        "    if sheet.len() > LONGEST_SHEET {\n        return refuse(16, sheet.len());\n    }\n    if permission > 3 {",
+    ),
+    variant!("sheet of 4096 refused", "writing.rs", "sheet.len() > LONGEST_SHEET", "sheet.len() >= LONGEST_SHEET"),
+    variant!("sheet of 4097 written", "writing.rs", "LONGEST_SHEET: usize = 4096", "LONGEST_SHEET: usize = 4097"),
+    variant!("a cut head ends the sheet", "writing.rs", "while !rest.is_empty() {", "while rest.len() >= 3 {"),
+    variant!(
+        "10 before 12",
+        "writing.rs",
+        "    let Some((record, rest)) = split_record(sheet) else {",
+        "    if matches!(sheet[0], PAD | OVERLOAD | END) {\n        return refuse(10, place);\n    }\n    \
+         let Some((record, rest)) = split_record(sheet) else {",
+    ),
+    variant!(
+        "13 before 12",
+        "writing.rs",
+        "    let Some((record, rest)) = split_record(sheet) else {",
+        "    if sheet.len() >= 3 && sheet[1] != 0 {\n        return refuse(13, place);\n    }\n    \
+         let Some((record, rest)) = split_record(sheet) else {",
+    ),
+    variant!(
+        "13 before 10",
+        "writing.rs",
+        "    if matches!(record.tag",
+        "    if record.data.len() > 255 {\n        return refuse(13, place);\n    }\n    if matches!(record.tag",
+    ),
+    variant!(
+        "7 before 13",
+        "writing.rs",
+        "    if record.data.len() > 255 {",
+        "    if tags.has(record.tag) {\n        return refuse(7, place);\n    }\n    if record.data.len() > 255 {",
+    ),
+    variant!(
+        "8 and 9 before 7",
+        "writing.rs",
+        "    if !tags.add(record.tag) {",
+        "    if let Some(kind) = kinds::kind_of(record.tag) {\n        \
+         if let Err(fault) = kinds::judge(kind, record.tag, record.data) {\n            \
+         return refuse(fault.number(), place);\n        }\n    }\n    if !tags.add(record.tag) {",
+    ),
+    variant!("tag 52 is written", "writing.rs", "PAD | OVERLOAD | END", "PAD | END"),
+    variant!("256 bytes of data", "writing.rs", "record.data.len() > 255", "record.data.len() > 256"),
+    variant!("repeated tags are written", "writing.rs", "if !tags.add(record.tag) {", "if false && !tags.add(record.tag) {"),
+    variant!(
+        "kinds are not judged",
+        "writing.rs",
+        "if let Some(kind) = kinds::kind_of(record.tag) {",
+        "if let (Some(kind), true) = (kinds::kind_of(record.tag), false) {",
+    ),
+    variant!("14 is not checked", "writing.rs", "1 => tag_3_before_1 = tag_3,", "1 => (),"),
+    variant!(
+        "14 as soon as it is met",
+        "writing.rs",
+        "1 => tag_3_before_1 = tag_3,",
+        "1 if tag_3.is_some() => return refuse(14, tag_3.unwrap()),",
+    ),
+    variant!("14 without tag 1", "writing.rs", "match tag_3_before_1 {", "match tag_3_before_1.or(tag_3) {"),
+    variant!(
+        "14 at tag 1",
+        "writing.rs",
+        "1 => tag_3_before_1 = tag_3,",
+        "1 => tag_3_before_1 = tag_3.map(|_| place),",
+    ),
+    // Writing: the plans.
+    variant!("plans tried falling", "writing.rs", "_ => &[1, 2, 3]", "_ => &[3, 2, 1]"),
+    variant!("plan 2 before 1", "writing.rs", "_ => &[1, 2, 3]", "_ => &[2, 1, 3]"),
+    variant!("plan 3 is not tried", "writing.rs", "_ => &[1, 2, 3]", "_ => &[1, 2]"),
+    variant!("plan 0 is not tried", "writing.rs", "OPTIONS + size < length", "OPTIONS + size < length && permission == 0"),
+    variant!("permission 0 permits 1", "writing.rs", "0 => &[]", "0 => &[1]"),
+    variant!("permission 2 permits 1", "writing.rs", "2 => &[2]", "2 => &[1]"),
+    variant!(
+        "no byte kept for END",
+        "writing.rs",
+        &[
+            ("OPTIONS + size < length", "OPTIONS + size <= length"),
+            ("used + size + 1 > room", "used + size > room"),
+            ("    room[used] = END;\n", "    room[used..].iter_mut().take(1).for_each(|byte| *byte = END);\n"),
+            ("room[used + 1..].fill(0)", "room[used..].iter_mut().skip(1).for_each(|byte| *byte = 0)"),
+        ],
+    ),
+    variant!("a byte more kept", "writing.rs", "used + size + 1 > room", "used + size + 2 > room"),
+    variant!("plan 0 needs a byte more", "writing.rs", "OPTIONS + size < length", "OPTIONS + size + 1 < length"),
+    variant!(
+        "empty sheet in 240 bytes",
+        "writing.rs",
+        &[
+            ("OPTIONS + size < length", "OPTIONS + size < length || size == 0"),
+            ("    room[used] = END;\n", "    room[used..].iter_mut().take(1).for_each(|byte| *byte = END);\n"),
+            ("room[used + 1..].fill(0)", "room[used..].iter_mut().skip(1).for_each(|byte| *byte = 0)"),
+        ],
+    ),
+    variant!(
+        "52 without END in 243 bytes",
+        "writing.rs",
+        &[
+            ("OVERLOADED >= length", "OVERLOADED > length"),
+            ("    room[used] = END;\n", "    room[used..].iter_mut().take(1).for_each(|byte| *byte = END);\n"),
+            ("room[used + 1..].fill(0)", "room[used..].iter_mut().skip(1).for_each(|byte| *byte = 0)"),
+        ],
+    ),
+    variant!("overloading needs 245 bytes", "writing.rs", "OVERLOADED >= length", "OVERLOADED + 1 >= length"),
+    variant!("options takes no record when overloaded", "writing.rs", "fill(sheet, length - OVERLOADED,", "fill(sheet, length - length,"),
+    variant!("file takes a byte less", "writing.rs", "fill(left, COOKIE - FILE,", "fill(left, COOKIE - FILE - 1,"),
+    variant!("file takes a byte more", "writing.rs", "fill(left, COOKIE - FILE,", "fill(left, COOKIE - FILE + 1,"),
+    variant!("sname takes a byte less", "writing.rs", "fill(left, FILE - SNAME,", "fill(left, FILE - SNAME - 1,"),
+    variant!("sname takes a byte more", "writing.rs", "fill(left, FILE - SNAME,", "fill(left, FILE - SNAME + 1,"),
+    // Of a plan that is used, options alone can be without a record.
+    variant!(
+        "a field of the plan without a record gets no END",
+        "writing.rs",
+        "    room[used] = END;\n",
+        "    if used > 0 || sheet.is_empty() {\n        room[used] = END;\n    }\n",
+    ),
+    variant!("rest is not made zero", "writing.rs", "    room[used + 1..].fill(0);\n", ""),
+    variant!("cookie is not written", "writing.rs", "    buffer[COOKIE..OPTIONS].copy_from_slice(&COOKIE_BYTES);\n", ""),
+    variant!(
+        "unused fields become zero",
+        "writing.rs",
+        "    // \"The cookie is written.\"\n",
+        "    if plan == 0 {\n        buffer[SNAME..COOKIE].fill(0);\n    }\n",
+    ),
+    variant!(
+        "header becomes zero",
+        "writing.rs",
+        "    // \"The cookie is written.\"\n",
+        "    buffer[..SNAME].fill(0);\n",
+    ),
+    variant!(
+        "52 last",
+        "writing.rs",
+        "        put_field(left, &mut buffer[SNAME..FILE]);\n    }\n",
+        "        put_field(left, &mut buffer[SNAME..FILE]);\n    }\n    \
+         let (_, used) = fill(sheet, buffer.len() - OVERLOADED, |_, _| ());\n    \
+         buffer[OPTIONS..OVERLOADED + used].rotate_left(3);\n",
+    ),
+    variant!(
+        "sname is filled before file",
+        "writing.rs",
+        "    if plan & 1 != 0 {\n        left = put_field",
+        "    if plan == 3 {\n        left = put_field(left, &mut buffer[SNAME..FILE]);\n        \
+         put_field(left, &mut buffer[FILE..COOKIE]);\n        return;\n    }\n    \
+         if plan & 1 != 0 {\n        left = put_field",
+    ),
+    variant!(
+        "going back to an earlier field",
+        "writing.rs",
+        &[
+            (
+                "fn takes(plan: u8, mut left: &[u8]) -> bool {\n",
+                "fn lay(sheet: &[u8], plan: u8, buffer: &mut [u8]) -> bool {
+    let mut rooms = vec![(OVERLOADED, buffer.len()), (FILE, COOKIE), (SNAME, FILE)];
+    if plan & 2 == 0 {
+        rooms.remove(2);
+    }
+    if plan & 1 == 0 {
+        rooms.remove(1);
+    }
+    let mut left = sheet;
+    while let Some((record, rest)) = split_record(left) {
+        let size = 2 + record.data.len();
+        let Some(room) = rooms.iter_mut().find(|room| room.0 + size < room.1) else {
+            return false;
+        };
+        put_option(&record, &mut buffer[room.0..]);
+        room.0 += size;
+        left = rest;
+    }
+    for (free, after) in rooms {
+        buffer[free] = END;
+        buffer[free + 1..after].fill(0);
+    }
+    true
+}
+
+fn takes(plan: u8, mut left: &[u8]) -> bool {
+",
+            ),
+            ("plans.find(|&plan| takes(plan, left))", "plans.find(|&plan| lay(sheet, plan, &mut [0; LONGEST][..length]))"),
+            (
+                "    let mut left = put_field(sheet, &mut buffer[OVERLOADED..]);\n",
+                "    if lay(sheet, plan, buffer) {\n        return;\n    }\n    \
+                 let mut left = put_field(sheet, &mut buffer[OVERLOADED..]);\n",
+            ),
+        ],
+    ),
+    variant!("place when nothing fits", "writing.rs", "refuse(11, buffer.len())", "refuse(11, size)"),
+];

@@ -1,0 +1,231 @@
+//! The C structures, and the implementation exported with the library's C
+//! signatures, so that single calls of it can be counted.
+
+use crate::rules::answers::{Codes, Lookup, Part, Refusal, RollCall};
+use crate::rules::{reading, writing};
+use std::slice;
+
+/// status: 0 absent, 1 unknown, 2 refused or broken, 3 a number, 4 a part.
+#[repr(C)]
+#[derive(Clone, Copy, PartialEq, Eq, Debug, Default)]
+pub struct Answer {
+    pub status: u32,
+    pub kind: u32,
+    pub refusal: u32,
+    pub number: i64,
+    pub place: usize,
+    pub start: usize,
+    pub length: usize,
+}
+
+#[repr(C)]
+#[derive(Clone, Copy, PartialEq, Eq, Debug, Default)]
+pub struct Extent {
+    pub start: usize,
+    pub length: usize,
+}
+
+#[repr(C)]
+#[derive(Clone, Copy, PartialEq, Eq, Debug, Default)]
+pub struct Address {
+    pub given: u32,
+    pub address: u32,
+    pub next: usize,
+}
+
+#[repr(C)]
+#[derive(Clone, Copy, PartialEq, Eq, Debug, Default)]
+pub struct Present {
+    pub words: [u64; 4],
+    pub count: u32,
+    pub lowest: u32,
+    pub refusal: u32,
+    pub place: usize,
+}
+
+#[repr(C)]
+#[derive(Clone, Copy, PartialEq, Eq, Debug, Default)]
+pub struct Filled {
+    pub refusal: u32,
+    pub size: usize,
+    pub place: usize,
+}
+
+#[repr(C)]
+#[derive(Clone, Copy, PartialEq, Eq, Debug, Default)]
+pub struct Wrote {
+    pub refusal: u32,
+    pub plan: u32,
+    pub place: usize,
+}
+
+impl From<Result<Lookup, Refusal>> for Answer {
+    fn from(result: Result<Lookup, Refusal>) -> Answer {
+        let none = Answer::default();
+        match result {
+            Ok(Lookup::Absent) => none,
+            Ok(Lookup::Unknown(part)) => {
+                Answer { status: 1, start: part.start, length: part.length, ..none }
+            }
+            Err(r) => Answer { status: 2, refusal: r.number, place: r.place, ..none },
+            Ok(Lookup::Number(kind, number)) => {
+                Answer { status: 3, kind: kind as u32, number, ..none }
+            }
+            Ok(Lookup::Part(kind, part)) => Answer {
+                status: 4,
+                kind: kind as u32,
+                start: part.start,
+                length: part.length,
+                ..none
+            },
+        }
+    }
+}
+
+impl From<Part> for Extent {
+    fn from(part: Part) -> Extent {
+        Extent { start: part.start, length: part.length }
+    }
+}
+
+impl Address {
+    /// Done: "given 0, address 0", and the place unchanged.
+    pub fn of_step(step: Option<(u32, usize)>, at: usize) -> Address {
+        match step {
+            Some((address, next)) => Address { given: 1, address, next },
+            None => Address { given: 0, address: 0, next: at },
+        }
+    }
+}
+
+impl From<Result<RollCall, Refusal>> for Present {
+    fn from(result: Result<RollCall, Refusal>) -> Present {
+        match result {
+            Ok(call) => Present {
+                words: call.words,
+                count: call.count,
+                lowest: call.lowest,
+                refusal: 0,
+                place: 0,
+            },
+            Err(r) => Present { refusal: r.number, place: r.place, ..Present::default() },
+        }
+    }
+}
+
+impl From<Result<usize, Refusal>> for Filled {
+    fn from(result: Result<usize, Refusal>) -> Filled {
+        match result {
+            Ok(size) => Filled { refusal: 0, size, place: 0 },
+            Err(r) => Filled { refusal: r.number, size: 0, place: r.place },
+        }
+    }
+}
+
+impl From<Result<u8, Refusal>> for Wrote {
+    fn from(result: Result<u8, Refusal>) -> Wrote {
+        match result {
+            Ok(plan) => Wrote { refusal: 0, plan: u32::from(plan), place: 0 },
+            Err(r) => Wrote { refusal: r.number, plan: 0, place: r.place },
+        }
+    }
+}
+
+/// # Safety
+/// `first` points to `length` readable bytes; it may be null when that is 0.
+unsafe fn lent<'a>(first: *const u8, length: usize) -> &'a [u8] {
+    if length == 0 {
+        &[]
+    } else {
+        slice::from_raw_parts(first, length)
+    }
+}
+
+/// # Safety
+/// `first` points to `length` bytes lent to this call alone; it may be null
+/// when that is 0.
+unsafe fn lent_mut<'a>(first: *mut u8, length: usize) -> &'a mut [u8] {
+    if length == 0 {
+        &mut []
+    } else {
+        slice::from_raw_parts_mut(first, length)
+    }
+}
+
+/// # Safety
+/// `m` points to `n` readable bytes.
+#[no_mangle]
+pub unsafe extern "C" fn independent_lookup(
+    m: *const u8,
+    n: usize,
+    k0: u64,
+    k1: u64,
+    k2: u64,
+    k3: u64,
+    code: u8,
+) -> Answer {
+    reading::lookup(lent(m, n), Codes([k0, k1, k2, k3]), code).into()
+}
+
+/// # Safety
+/// `m` points to `n` readable bytes.
+#[no_mangle]
+pub unsafe extern "C" fn independent_data(m: *const u8, n: usize, code: u8) -> Extent {
+    reading::data(lent(m, n), code).into()
+}
+
+/// # Safety
+/// `m` points to `n` readable bytes.
+#[no_mangle]
+pub unsafe extern "C" fn independent_text(
+    m: *const u8,
+    n: usize,
+    k0: u64,
+    k1: u64,
+    k2: u64,
+    k3: u64,
+    code: u8,
+) -> Extent {
+    reading::text(lent(m, n), Codes([k0, k1, k2, k3]), code).into()
+}
+
+/// # Safety
+/// `list` points to `n` readable bytes.
+#[no_mangle]
+pub unsafe extern "C" fn independent_address_step(list: *const u8, n: usize, at: usize) -> Address {
+    Address::of_step(reading::address_step(lent(list, n), at), at)
+}
+
+/// # Safety
+/// `m` points to `n` readable bytes.
+#[no_mangle]
+pub unsafe extern "C" fn independent_present(m: *const u8, n: usize) -> Present {
+    reading::present(lent(m, n)).into()
+}
+
+/// # Safety
+/// `m` points to `n` readable bytes, `out` to `room` bytes lent to this call
+/// alone.
+#[no_mangle]
+pub unsafe extern "C" fn independent_records(
+    m: *const u8,
+    n: usize,
+    out: *mut u8,
+    room: usize,
+) -> Filled {
+    reading::records(lent(m, n), lent_mut(out, room)).into()
+}
+
+/// # Safety
+/// `sheet` points to `n` readable bytes, `m` to `room` bytes lent to this call
+/// alone.
+#[no_mangle]
+pub unsafe extern "C" fn independent_write(
+    sheet: *const u8,
+    n: usize,
+    m: *mut u8,
+    room: usize,
+    permission: u8,
+) -> Wrote {
+    writing::write(lent(sheet, n), lent_mut(m, room), permission).into()
+}

@@ -1,0 +1,202 @@
+//! Whether the tester can fail. Two kinds of wrong things are put in place of a
+//! side, one at a time, and each has to be told: wrong variants of the rules
+//! against the library, and wrong subjects against the rules.
+
+use super::compare::Run;
+use super::library::library;
+use super::sides::{independent_rules, own_exports, yardstick, Subject, Yardstick};
+use independent::boundary::{self, Answer, Extent, Filled, Present, Wrote};
+use std::panic;
+
+include!(concat!(env!("OUT_DIR"), "/variants.rs"));
+
+/// So many cases are tried before something is held not to be told.
+const CASES: u64 = 300_000;
+const SEED: u64 = 1;
+
+/// Exit status 0 when all are told, and what is right is not.
+pub fn run() -> i32 {
+    let mut failed = 0;
+    for (name, subject) in [("the library", library()), ("this package's exports", own_exports())] {
+        let found = differences(Run::new(subject, independent_rules()), CASES);
+        println!("control, {name}: {}", if found.is_none() { "no difference" } else { "DIFFERS" });
+        failed += usize::from(found.is_some());
+    }
+    let subjects = subjects();
+    panic::set_hook(Box::new(|_| ()));
+    for (name, rules) in VARIANTS {
+        failed += usize::from(!told("variant", name, library(), rules));
+    }
+    for &(name, subject) in &subjects {
+        failed += usize::from(!told("subject", name, subject, independent_rules()));
+    }
+    let _ = panic::take_hook();
+    println!("{} wrong ones and 2 controls, {failed} failed", VARIANTS.len() + subjects.len());
+    i32::from(failed > 0)
+}
+
+fn told(what: &str, name: &str, subject: Subject, rules: Yardstick) -> bool {
+    let run = move || differences(Run::new(subject, rules), CASES);
+    match panic::catch_unwind(run) {
+        Ok(Some((index, call))) => println!("{what} '{name}': detected at case {index} by {call}"),
+        Ok(None) => {
+            println!("{what} '{name}': NOT DETECTED in {CASES} cases");
+            return false;
+        }
+        Err(_) => {
+            println!("{what} '{name}': ended in a panic, which shows nothing");
+            return false;
+        }
+    }
+    true
+}
+
+/// The first difference: its case and call.
+fn differences(run: Run, cases: u64) -> Option<(u64, String)> {
+    let mut run = run.quiet();
+    for index in 0..cases {
+        run.case(SEED, index);
+        if run.over() {
+            return Some((index, run.first.unwrap_or_default()));
+        }
+    }
+    None
+}
+
+/// Subjects with a fault that the rules cannot have.
+fn subjects() -> Vec<(&'static str, Subject)> {
+    let own = own_exports();
+    vec![
+        ("records writes the byte before the lent ones", Subject { records: writes_before, ..own }),
+        ("records writes the byte past the lent ones", Subject { records: writes_past, ..own }),
+        ("write writes the byte before the lent ones", Subject { write: write_before, ..own }),
+        ("write writes the byte past the lent ones", Subject { write: write_past, ..own }),
+        ("write changes the sheet", Subject { write: changes_sheet, ..own }),
+        ("lookup changes the message", Subject { lookup: changes_message, ..own }),
+        ("absent with a start", Subject { lookup: absent_with_start, ..own }),
+        ("refused roll call with words", Subject { present: refused_with_words, ..own }),
+        ("refused records with a size", Subject { records: refused_with_size, ..own }),
+        ("refused write with a plan", Subject { write: refused_with_plan, ..own }),
+        ("a refused write touches a byte", Subject { write: refusal_writes, ..own }),
+        ("refused data with a start", Subject { data: empty_with_start, ..own }),
+    ]
+}
+
+unsafe extern "C" fn writes_before(m: *const u8, n: usize, out: *mut u8, room: usize) -> Filled {
+    *out.sub(1) ^= 1;
+    boundary::independent_records(m, n, out, room)
+}
+
+unsafe extern "C" fn writes_past(m: *const u8, n: usize, out: *mut u8, room: usize) -> Filled {
+    *out.add(room) ^= 1;
+    boundary::independent_records(m, n, out, room)
+}
+
+unsafe extern "C" fn write_before(
+    sheet: *const u8,
+    n: usize,
+    m: *mut u8,
+    room: usize,
+    permission: u8,
+) -> Wrote {
+    *m.sub(1) ^= 1;
+    boundary::independent_write(sheet, n, m, room, permission)
+}
+
+unsafe extern "C" fn write_past(
+    sheet: *const u8,
+    n: usize,
+    m: *mut u8,
+    room: usize,
+    permission: u8,
+) -> Wrote {
+    *m.add(room) ^= 1;
+    boundary::independent_write(sheet, n, m, room, permission)
+}
+
+unsafe extern "C" fn changes_sheet(
+    sheet: *const u8,
+    n: usize,
+    m: *mut u8,
+    room: usize,
+    permission: u8,
+) -> Wrote {
+    let wrote = boundary::independent_write(sheet, n, m, room, permission);
+    if n > 0 {
+        *sheet.cast_mut().add(n - 1) ^= 1;
+    }
+    wrote
+}
+
+unsafe extern "C" fn changes_message(
+    m: *const u8,
+    n: usize,
+    k0: u64,
+    k1: u64,
+    k2: u64,
+    k3: u64,
+    code: u8,
+) -> Answer {
+    if n > 0 {
+        *m.cast_mut() ^= 1;
+    }
+    boundary::independent_lookup(m, n, k0, k1, k2, k3, code)
+}
+
+unsafe extern "C" fn absent_with_start(
+    m: *const u8,
+    n: usize,
+    k0: u64,
+    k1: u64,
+    k2: u64,
+    k3: u64,
+    code: u8,
+) -> Answer {
+    let answer = boundary::independent_lookup(m, n, k0, k1, k2, k3, code);
+    Answer { start: if answer.status == 0 { n } else { answer.start }, ..answer }
+}
+
+unsafe extern "C" fn refused_with_words(m: *const u8, n: usize) -> Present {
+    let present = boundary::independent_present(m, n);
+    Present { words: if present.refusal == 7 { [1; 4] } else { present.words }, ..present }
+}
+
+unsafe extern "C" fn refused_with_size(
+    m: *const u8,
+    n: usize,
+    out: *mut u8,
+    room: usize,
+) -> Filled {
+    let filled = boundary::independent_records(m, n, out, room);
+    Filled { size: if filled.refusal == 11 { room + 1 } else { filled.size }, ..filled }
+}
+
+unsafe extern "C" fn refused_with_plan(
+    sheet: *const u8,
+    n: usize,
+    m: *mut u8,
+    room: usize,
+    permission: u8,
+) -> Wrote {
+    let wrote = boundary::independent_write(sheet, n, m, room, permission);
+    Wrote { plan: if wrote.refusal == 11 { 3 } else { wrote.plan }, ..wrote }
+}
+
+unsafe extern "C" fn refusal_writes(
+    sheet: *const u8,
+    n: usize,
+    m: *mut u8,
+    room: usize,
+    permission: u8,
+) -> Wrote {
+    let wrote = boundary::independent_write(sheet, n, m, room, permission);
+    if wrote.refusal == 14 {
+        *m.add(236) ^= 1;
+    }
+    wrote
+}
+
+unsafe extern "C" fn empty_with_start(m: *const u8, n: usize, code: u8) -> Extent {
+    let extent = boundary::independent_data(m, n, code);
+    Extent { start: if extent.length == 0 { 240 } else { extent.start }, ..extent }
+}

@@ -1,0 +1,410 @@
+//! The comparison: every answer, every number and place, every byte of every
+//! lent buffer, the bytes around it, and that inputs stay as they were.
+
+use super::counts::Counts;
+use super::lent::Lent;
+use super::rng::Rng;
+use super::sheets::Needs;
+use super::sides::{Subject, Yardstick};
+use super::{messages, sheets};
+use independent::rules::answers::Codes;
+use std::fmt::Debug;
+
+/// After so many differences a run ends.
+pub const MOST: u64 = 20;
+
+pub struct Run {
+    subject: Subject,
+    yardstick: Yardstick,
+    pub counts: Counts,
+    pub differences: u64,
+    /// The call of the first difference.
+    pub first: Option<String>,
+    pub most: u64,
+    quiet: bool,
+    case: String,
+    input: Lent,
+    input_before: Lent,
+    theirs: Lent,
+    ours: Lent,
+    bytes: Vec<u8>,
+}
+
+impl Run {
+    pub fn new(subject: Subject, yardstick: Yardstick) -> Run {
+        Run {
+            subject,
+            yardstick,
+            counts: Counts::new(),
+            differences: 0,
+            first: None,
+            most: MOST,
+            quiet: false,
+            case: String::new(),
+            input: Lent::default(),
+            input_before: Lent::default(),
+            theirs: Lent::default(),
+            ours: Lent::default(),
+            bytes: Vec::new(),
+        }
+    }
+
+    /// Ends at the first difference and prints nothing.
+    pub fn quiet(mut self) -> Run {
+        self.quiet = true;
+        self.most = 1;
+        self
+    }
+
+    pub fn over(&self) -> bool {
+        self.differences >= self.most
+    }
+
+    /// Names the case that is compared next.
+    pub fn name(&mut self, case: String) {
+        self.case = case;
+    }
+
+    /// One generated case.
+    pub fn case(&mut self, seed: u64, index: u64) {
+        self.case.clear();
+        if !self.quiet {
+            use std::fmt::Write;
+            let _ = write!(self.case, "seed {seed} index {index}");
+        }
+        let mut rng = Rng::of_case(seed, index);
+        let mut bytes = std::mem::take(&mut self.bytes);
+        match rng.below(40) {
+            0 => self.list_case(&mut rng, &mut bytes),
+            1..=20 => {
+                messages::message(&mut rng, &mut bytes);
+                let all = rng.below(100) == 0;
+                self.message(&mut rng, &bytes, all);
+            }
+            _ => {
+                sheets::sheet(&mut rng, &mut bytes);
+                self.sheet(&mut rng, &bytes);
+            }
+        }
+        self.bytes = bytes;
+    }
+
+    fn differ(&mut self, call: &str, theirs: &dyn Debug, ours: &dyn Debug) {
+        if self.over() {
+            return;
+        }
+        self.differences += 1;
+        self.first.get_or_insert_with(|| call.to_string());
+        if self.quiet {
+            return;
+        }
+        println!("DIFFERENCE in {call}; {}", self.case);
+        println!(
+            "  input ({} bytes): {}",
+            self.input_before.len(),
+            hex(self.input_before.middle())
+        );
+        println!("  library:     {theirs:?}");
+        println!("  independent: {ours:?}");
+    }
+
+    fn equal<T: PartialEq + Debug>(&mut self, call: impl Fn() -> String, theirs: &T, ours: &T) {
+        if theirs != ours {
+            self.differ(&call(), theirs, ours);
+        }
+    }
+
+    /// The lent bytes and their guards, after a call.
+    fn equal_lent(&mut self, call: impl Fn() -> String) {
+        if self.theirs.same(&self.ours) {
+            return;
+        }
+        let at = self.theirs.difference(&self.ours);
+        let theirs = format!("{at:?}: {}", hex(self.theirs.middle()));
+        let ours = format!("{at:?}: {}", hex(self.ours.middle()));
+        self.differ(&format!("{}, lent bytes", call()), &theirs, &ours);
+    }
+
+    fn hold_input(&mut self, rng: &mut Rng, bytes: &[u8]) {
+        self.input.hold(rng, bytes);
+        self.input_before.copy(&self.input);
+    }
+
+    fn input_unchanged(&mut self) {
+        if !self.input.same(&self.input_before) {
+            let at = self.input.difference(&self.input_before);
+            self.differ("the input's bytes", &at, &"unchanged");
+        }
+    }
+
+    /// Reads one message: all 256 codes, or those present and some others.
+    pub fn message(&mut self, rng: &mut Rng, bytes: &[u8], all: bool) {
+        self.counts.messages += 1;
+        self.read(rng, bytes, all);
+    }
+
+    fn read(&mut self, rng: &mut Rng, bytes: &[u8], all: bool) {
+        self.hold_input(rng, bytes);
+        let words = self.present();
+        self.rooms(rng);
+        if all {
+            for code in 0..=255 {
+                let known = known_set(rng, code);
+                self.ask(known, code);
+            }
+        } else {
+            self.some_codes(rng, words);
+        }
+        self.input_unchanged();
+    }
+
+    /// Reads one message, all 256 codes with several known sets.
+    pub fn message_whole(&mut self, rng: &mut Rng, bytes: &[u8]) {
+        self.counts.messages += 1;
+        self.hold_input(rng, bytes);
+        self.present();
+        self.rooms(rng);
+        for code in 0..=255 {
+            let mut single = Codes::default();
+            single.add(code);
+            let but_one = Codes(single.0.map(|word| !word));
+            let random = Codes([rng.next(), rng.next(), rng.next(), rng.next()]);
+            for known in [Codes([u64::MAX; 4]), Codes::default(), single, but_one, random] {
+                self.ask(known, code);
+            }
+        }
+        self.input_unchanged();
+    }
+
+    fn some_codes(&mut self, rng: &mut Rng, words: [u64; 4]) {
+        let present = Codes(words);
+        // Every code present, as far as there are not many.
+        let share = if present.count() <= 14 { 100 } else { 1400 / present.count() as usize };
+        for code in 1..=254 {
+            if present.has(code) && rng.percent(share) {
+                let known = known_set(rng, code);
+                self.ask(known, code);
+            }
+        }
+        for _ in 0..3 {
+            let code = if rng.percent(50) { rng.byte() } else { rng.between(1, 76) as u8 };
+            let known = known_set(rng, code);
+            self.ask(known, code);
+        }
+        if rng.percent(10) {
+            let code = rng.pick(&[0, 52, 255]);
+            let known = known_set(rng, code);
+            self.ask(known, code);
+        }
+    }
+
+    fn present(&mut self) -> [u64; 4] {
+        let (m, n) = (self.input.pointer(), self.input.len());
+        let theirs = unsafe { (self.subject.present)(m, n) };
+        let ours = (self.yardstick.present)(self.input.middle());
+        self.counts.present(&theirs);
+        self.equal(|| "present".to_string(), &theirs, &ours);
+        theirs.words
+    }
+
+    /// Lookup, data and text of one code, and the walk of its addresses.
+    fn ask(&mut self, known: Codes, code: u8) {
+        let (m, n) = (self.input.pointer(), self.input.len());
+        let [k0, k1, k2, k3] = known.0;
+        let name = |call: &str| format!("{call} of code {code}, known set {:x?}", known.0);
+
+        let answer = unsafe { (self.subject.lookup)(m, n, k0, k1, k2, k3, code) };
+        let ours = (self.yardstick.lookup)(self.input.middle(), known, code);
+        self.counts.lookup(code, &answer);
+        self.equal(|| name("lookup"), &answer, &ours);
+
+        let data = unsafe { (self.subject.data)(m, n, code) };
+        let ours = (self.yardstick.data)(self.input.middle(), code);
+        self.counts.data(&data);
+        self.equal(|| name("data"), &data, &ours);
+
+        let text = unsafe { (self.subject.text)(m, n, k0, k1, k2, k3, code) };
+        let ours = (self.yardstick.text)(self.input.middle(), known, code);
+        self.counts.text(&text);
+        self.equal(|| name("text"), &text, &ours);
+
+        if answer.status == 4 && matches!(answer.kind, 2 | 3) {
+            self.walk(data.start, data.length);
+        }
+    }
+
+    /// Walks the addresses of a part of the input to the end.
+    fn walk(&mut self, start: usize, length: usize) {
+        if start + length > self.input.len() {
+            return;
+        }
+        let mut at = 0;
+        while at <= length {
+            let step = self.step(start, length, at);
+            if step.0 == 0 || self.over() {
+                return;
+            }
+            at = step.1;
+        }
+    }
+
+    fn step(&mut self, start: usize, length: usize, at: usize) -> (u32, usize) {
+        let list = self.input.pointer().wrapping_add(start);
+        let theirs = unsafe { (self.subject.address_step)(list, length, at) };
+        let ours = (self.yardstick.address_step)(&self.input.middle()[start..][..length], at);
+        self.counts.step(&theirs);
+        self.equal(|| format!("address step at {at} of {start}, {length}"), &theirs, &ours);
+        (theirs.given, theirs.next)
+    }
+
+    /// A list of any length, asked at any place.
+    fn list_case(&mut self, rng: &mut Rng, bytes: &mut Vec<u8>) {
+        bytes.clear();
+        let length = if rng.percent(90) { rng.below(20) } else { rng.below(300) };
+        rng.telling_bytes(length, bytes);
+        self.hold_input(rng, bytes);
+        self.counts.lists += 1;
+        self.walk(0, length);
+        for _ in 0..6 {
+            let at = match rng.below(8) {
+                0 => usize::MAX - rng.below(6),
+                1 => rng.next() as usize,
+                2 => length,
+                3 => length.saturating_sub(rng.below(6)),
+                4 => (1 << 63) - rng.below(6),
+                _ => rng.below(length + 8),
+            };
+            self.step(0, length, at);
+        }
+        self.input_unchanged();
+    }
+
+    /// The message's records, in lent sheets of several lengths.
+    fn rooms(&mut self, rng: &mut Rng) {
+        let mut large = [0; 2048];
+        let whole = (self.yardstick.records)(self.input.middle(), &mut large);
+        if whole.refusal != 0 {
+            let room = rng.pick(&[0, 0, 1, 7, 64, 2000]);
+            self.records(rng, None, room);
+            return;
+        }
+        let size = whole.size;
+        self.records(rng, Some(size), size);
+        if size > 0 {
+            self.records(rng, Some(size), size - 1);
+        }
+        let room = match rng.below(8) {
+            0 | 1 => 0,
+            2 => rng.below(size + 1),
+            3 => size + 1,
+            4 => 4096 + rng.below(10),
+            _ => size + rng.below(100),
+        };
+        self.records(rng, Some(size), room);
+    }
+
+    fn records(&mut self, rng: &mut Rng, size: Option<usize>, room: usize) {
+        self.theirs.any(rng, room);
+        self.ours.copy(&self.theirs);
+        let (m, n) = (self.input.pointer(), self.input.len());
+        let out = self.theirs.pointer();
+        let filled = unsafe { (self.subject.records)(m, n, out, room) };
+        let ours = (self.yardstick.records)(self.input.middle(), self.ours.middle_mut());
+        self.counts.records(&filled, size, room);
+        let name = || format!("records into {room} bytes");
+        self.equal(name, &filled, &ours);
+        self.equal_lent(name);
+    }
+
+    /// Writes one sheet into several buffers.
+    pub fn sheet(&mut self, rng: &mut Rng, bytes: &[u8]) {
+        self.counts.sheets += 1;
+        let needs = Needs::of(bytes);
+        for _ in 0..rng.between(1, 3) {
+            self.hold_input(rng, bytes);
+            let (room, permission) = sheets::trial(rng, &needs);
+            let accepted = self.write(rng, &needs, room, permission);
+            self.input_unchanged();
+            if accepted {
+                self.read_back(rng, bytes);
+            }
+        }
+    }
+
+    fn write(&mut self, rng: &mut Rng, needs: &Needs, room: usize, permission: u8) -> bool {
+        self.theirs.any(rng, room);
+        self.ours.copy(&self.theirs);
+        let (sheet, n) = (self.input.pointer(), self.input.len());
+        let m = self.theirs.pointer();
+        let wrote = unsafe { (self.subject.write)(sheet, n, m, room, permission) };
+        let ours = (self.yardstick.write)(self.input.middle(), self.ours.middle_mut(), permission);
+        let fit =
+            (0..4).find(|&plan| wrote.plan as usize == plan && needs.plan(plan) == Some(room));
+        let short = (0..4)
+            .find(|&plan| usize::from(permission) == plan && needs.plan(plan) == Some(room + 1));
+        self.counts.write(self.input.middle(), permission, &wrote, fit, short);
+        let name = || format!("write into {room} bytes, permission {permission}");
+        self.equal(name, &wrote, &ours);
+        self.equal_lent(name);
+        wrote.refusal == 0
+    }
+
+    /// "A sheet that the writer accepts, written and then taken back from the
+    /// message with room enough, is the same byte for byte and in its order."
+    fn read_back(&mut self, rng: &mut Rng, sheet: &[u8]) {
+        let message = self.theirs.middle().to_vec();
+        self.hold_input(rng, &message);
+        let (m, n) = (self.input.pointer(), self.input.len());
+        self.theirs.any(rng, sheet.len());
+        let room = self.theirs.len();
+        let out = self.theirs.pointer();
+        let filled = unsafe { (self.subject.records)(m, n, out, room) };
+        self.counts.calls += 1;
+        self.counts.read_back += 1;
+        if filled.refusal != 0 || filled.size != sheet.len() || self.theirs.middle() != sheet {
+            let got = format!("{filled:?} {}", hex(self.theirs.middle()));
+            self.differ("records of a written message", &got, &hex(sheet));
+        }
+        self.read(rng, &message, false);
+    }
+
+    /// One message with the answer of one code.
+    pub fn one_code(&mut self, rng: &mut Rng, bytes: &[u8], code: u8) {
+        self.counts.messages += 1;
+        self.hold_input(rng, bytes);
+        self.present();
+        let room = bytes.len();
+        self.records(rng, None, room);
+        self.ask(Codes([u64::MAX; 4]), code);
+        self.input_unchanged();
+    }
+
+    /// One sheet into one buffer.
+    pub fn one_write(&mut self, rng: &mut Rng, bytes: &[u8], room: usize, permission: u8) {
+        self.counts.sheets += 1;
+        self.hold_input(rng, bytes);
+        self.write(rng, &Needs::of(bytes), room, permission);
+        self.input_unchanged();
+    }
+}
+
+fn known_set(rng: &mut Rng, code: u8) -> Codes {
+    let mut one = Codes::default();
+    one.add(code);
+    match rng.below(16) {
+        0..=6 => Codes([u64::MAX; 4]),
+        7 => Codes::default(),
+        8..=10 => one,
+        11 => Codes(one.0.map(|word| !word)),
+        12 => {
+            let mut other = Codes::default();
+            other.add(code ^ (1 << rng.below(8)));
+            other
+        }
+        _ => Codes([rng.next(), rng.next(), rng.next(), rng.next()]),
+    }
+}
+
+pub fn hex(bytes: &[u8]) -> String {
+    bytes.iter().map(|byte| format!("{byte:02x}")).collect()
+}

@@ -1,0 +1,331 @@
+//! What was exercised, and whether it was often enough.
+
+use independent::boundary::{Address, Answer, Extent, Filled, Present, Wrote};
+use independent::rules::answers::Kind;
+use independent::rules::kinds::kind_of;
+use independent::rules::reading::{COOKIE, FILE, OPTIONS, OVERLOAD, SNAME};
+
+/// How often each possible answer is to come in the short mode.
+const LEAST: u64 = 100;
+
+/// Refusals by number; at 0 the calls that were not refused.
+type Refusals = [u64; 17];
+
+pub struct Counts {
+    pub messages: u64,
+    pub sheets: u64,
+    pub lists: u64,
+    pub calls: u64,
+    pub read_back: u64,
+    lookup: Refusals,
+    present: Refusals,
+    records: Refusals,
+    write: Refusals,
+    status: [u64; 5],
+    kind: [u64; 12],
+    answered: [u64; 256],
+    unknown: [u64; 256],
+    absent: [u64; 256],
+    lookup_8: [u64; 256],
+    lookup_9: [u64; 256],
+    write_8: [u64; 256],
+    write_9: [u64; 256],
+    /// Refusals 4 to 7 of the roll call, by field: options, file, sname.
+    fault: [[u64; 3]; 4],
+    /// By permission and plan.
+    plan: [[u64; 4]; 4],
+    fit: [u64; 4],
+    short: [u64; 4],
+    data: [u64; 2],
+    text: [u64; 2],
+    step: [u64; 2],
+    /// Lent sheets: exact, one short, longer, none at all.
+    lent: [u64; 4],
+}
+
+impl Counts {
+    pub fn new() -> Counts {
+        Counts {
+            messages: 0,
+            sheets: 0,
+            lists: 0,
+            calls: 0,
+            read_back: 0,
+            lookup: [0; 17],
+            present: [0; 17],
+            records: [0; 17],
+            write: [0; 17],
+            status: [0; 5],
+            kind: [0; 12],
+            answered: [0; 256],
+            unknown: [0; 256],
+            absent: [0; 256],
+            lookup_8: [0; 256],
+            lookup_9: [0; 256],
+            write_8: [0; 256],
+            write_9: [0; 256],
+            fault: [[0; 3]; 4],
+            plan: [[0; 4]; 4],
+            fit: [0; 4],
+            short: [0; 4],
+            data: [0; 2],
+            text: [0; 2],
+            step: [0; 2],
+            lent: [0; 4],
+        }
+    }
+
+    pub fn lookup(&mut self, code: u8, answer: &Answer) {
+        let code = usize::from(code);
+        self.calls += 1;
+        add(&mut self.lookup, answer.refusal as usize);
+        add(&mut self.status, answer.status as usize);
+        match (answer.status, answer.refusal) {
+            (0, _) => self.absent[code] += 1,
+            (1, _) => self.unknown[code] += 1,
+            (2, 8) => self.lookup_8[code] += 1,
+            (2, 9) => self.lookup_9[code] += 1,
+            (2, _) => (),
+            _ => {
+                self.answered[code] += 1;
+                add(&mut self.kind, answer.kind as usize);
+            }
+        }
+    }
+
+    pub fn data(&mut self, extent: &Extent) {
+        self.calls += 1;
+        self.data[usize::from(extent.length > 0)] += 1;
+    }
+
+    pub fn text(&mut self, extent: &Extent) {
+        self.calls += 1;
+        self.text[usize::from(extent.length > 0)] += 1;
+    }
+
+    pub fn step(&mut self, step: &Address) {
+        self.calls += 1;
+        self.step[usize::from(step.given > 0)] += 1;
+    }
+
+    pub fn present(&mut self, present: &Present) {
+        self.calls += 1;
+        add(&mut self.present, present.refusal as usize);
+        if let 4..=7 = present.refusal {
+            let after = present.refusal == 5;
+            let field = match present.place {
+                OPTIONS.. => 0,
+                COOKIE if after => 1,
+                FILE if after => 2,
+                FILE..COOKIE => 1,
+                SNAME..FILE => 2,
+                _ => return,
+            };
+            self.fault[present.refusal as usize - 4][field] += 1;
+        }
+    }
+
+    /// `size` is what the message's records take.
+    pub fn records(&mut self, filled: &Filled, size: Option<usize>, room: usize) {
+        self.calls += 1;
+        add(&mut self.records, filled.refusal as usize);
+        let Some(size) = size else { return };
+        if room == size {
+            self.lent[0] += 1;
+        } else if room + 1 == size {
+            self.lent[1] += 1;
+        } else if room > size {
+            self.lent[2] += 1;
+        } else if room == 0 {
+            self.lent[3] += 1;
+        }
+    }
+
+    /// `fit` is a plan whose smallest buffer this is; `short` a plan for
+    /// which, alone or as the last of all, it is one byte too short.
+    pub fn write(
+        &mut self,
+        sheet: &[u8],
+        permission: u8,
+        wrote: &Wrote,
+        fit: Option<usize>,
+        short: Option<usize>,
+    ) {
+        self.calls += 1;
+        add(&mut self.write, wrote.refusal as usize);
+        let tag = || usize::from(sheet.get(wrote.place).copied().unwrap_or(0));
+        match wrote.refusal {
+            0 => {
+                let plan = wrote.plan as usize;
+                self.plan[usize::from(permission).min(3)][plan.min(3)] += 1;
+                if fit == Some(plan) {
+                    self.fit[plan] += 1;
+                }
+            }
+            8 => self.write_8[tag()] += 1,
+            9 => self.write_9[tag()] += 1,
+            11 => {
+                if let Some(plan) = short {
+                    self.short[plan] += 1;
+                }
+            }
+            _ => (),
+        }
+    }
+
+    /// Messages, sheets and lists together.
+    pub fn compared(&self) -> u64 {
+        self.messages + self.sheets + self.lists
+    }
+
+    pub fn print(&self) {
+        println!(
+            "messages {}, sheets {}, address lists {}, calls {}",
+            self.messages, self.sheets, self.lists, self.calls
+        );
+        println!("written messages read back as their sheet: {}", self.read_back);
+        print_refusals("lookup", &self.lookup);
+        print_refusals("present", &self.present);
+        print_refusals("records", &self.records);
+        print_refusals("write", &self.write);
+        let [absent, unknown, refused, number, part] = self.status;
+        println!(
+            "lookup: absent {absent}, unknown {unknown}, refused or broken {refused}, \
+             number {number}, part {part}"
+        );
+        println!("lookup by kind 1 to 11: {:?}", &self.kind[1..]);
+        for (i, number) in (4..=7).enumerate() {
+            println!("present: {number} in options, file, sname: {:?}", self.fault[i]);
+        }
+        println!("data: given {}, empty {}", self.data[1], self.data[0]);
+        println!("text: given {}, empty {}", self.text[1], self.text[0]);
+        println!("address step: given {}, done {}", self.step[1], self.step[0]);
+        println!("records, lent exactly, one short, longer, none: {:?}", self.lent);
+        for (permission, plans) in self.plan.iter().enumerate() {
+            println!("write, permission {permission}: plans 0 to 3 used {plans:?}");
+        }
+        println!("write, plans 0 to 3 at their exact fit: {:?}", self.fit);
+        println!("write, refused one byte short of plans 0 to 3: {:?}", self.short);
+        for (what, least) in [
+            ("lookup answered, rarest code with a row", self.rarest(has_row, &self.answered)),
+            ("lookup unknown, rarest code", self.rarest(is_code, &self.unknown)),
+            ("lookup absent, rarest code", self.rarest(is_code, &self.absent)),
+            ("lookup 8, rarest code", self.rarest(breaks_length, &self.lookup_8)),
+            ("lookup 9, rarest code", self.rarest(breaks_value, &self.lookup_9)),
+            ("write 8, rarest tag", self.rarest(breaks_length, &self.write_8)),
+            ("write 9, rarest tag", self.rarest(breaks_value, &self.write_9)),
+        ] {
+            println!("{what}: {} ({} times)", least.0, least.1);
+        }
+    }
+
+    fn rarest(&self, possible: fn(u8) -> bool, counts: &[u64; 256]) -> (u8, u64) {
+        let counted = (0..=255).filter(|&code| possible(code));
+        let pairs = counted.map(|code| (code, counts[usize::from(code)]));
+        pairs.min_by_key(|&(_, count)| count).unwrap_or((0, 0))
+    }
+
+    /// What came too seldom.
+    pub fn missing(&self) -> Vec<String> {
+        let mut missing = Missing(Vec::new());
+        missing.refusals("lookup", &self.lookup, &[0, 1, 2, 3, 4, 5, 6, 7, 8, 9, 10]);
+        missing.refusals("present", &self.present, &[0, 1, 2, 3, 4, 5, 6, 7]);
+        missing.refusals("records", &self.records, &[0, 1, 2, 3, 4, 5, 6, 7, 11]);
+        missing.refusals("write", &self.write, &[0, 1, 2, 7, 8, 9, 10, 11, 12, 13, 14, 15, 16]);
+        missing.all("lookup status", &self.status);
+        missing.all("lookup kind", &self.kind[1..]);
+        for (i, fields) in self.fault.iter().enumerate() {
+            missing.all(&format!("present refusal {} by field", i + 4), fields);
+        }
+        missing.all("data", &self.data);
+        missing.all("text", &self.text);
+        missing.all("address step", &self.step);
+        missing.all("records lent", &self.lent);
+        // Under permission 3, what fits plan 2 fits plan 1, which is tried before.
+        for (permission, plan) in [(0, 0), (1, 0), (1, 1), (2, 0), (2, 2), (3, 0), (3, 1), (3, 3)] {
+            let count = self.plan[permission][plan];
+            missing.one(&format!("write permission {permission} plan {plan}"), count);
+        }
+        missing.all("write exact fit of plan", &self.fit);
+        missing.all("write one short of plan", &self.short);
+        missing.codes("lookup answered", has_row, &self.answered);
+        missing.codes("lookup unknown", is_code, &self.unknown);
+        missing.codes("lookup absent", is_code, &self.absent);
+        missing.codes("lookup 8", breaks_length, &self.lookup_8);
+        missing.codes("lookup 9", breaks_value, &self.lookup_9);
+        missing.codes("write 8", breaks_length, &self.write_8);
+        missing.codes("write 9", breaks_value, &self.write_9);
+        missing.0
+    }
+}
+
+fn add(counts: &mut [u64], at: usize) {
+    if let Some(count) = counts.get_mut(at) {
+        *count += 1;
+    }
+}
+
+fn print_refusals(call: &str, counts: &Refusals) {
+    print!("{call}: not refused {}", counts[0]);
+    for (number, count) in counts.iter().enumerate().skip(1) {
+        if *count > 0 {
+            print!(", {number}: {count}");
+        }
+    }
+    println!();
+}
+
+fn is_code(code: u8) -> bool {
+    !matches!(code, 0 | 255)
+}
+
+fn has_row(code: u8) -> bool {
+    kind_of(code).is_some()
+}
+
+/// 52 of a wrong length or value is refused before.
+fn breaks_length(code: u8) -> bool {
+    has_row(code) && code != OVERLOAD
+}
+
+fn breaks_value(code: u8) -> bool {
+    match kind_of(code) {
+        Some(Kind::Flag | Kind::List16) => true,
+        Some(Kind::OneByte) => code != OVERLOAD,
+        Some(Kind::Number16) => code != 13,
+        Some(Kind::AddressPairs) => code == 33,
+        _ => false,
+    }
+}
+
+struct Missing(Vec<String>);
+
+impl Missing {
+    fn one(&mut self, what: &str, count: u64) {
+        if count < LEAST {
+            self.0.push(format!("{what}: {count} times"));
+        }
+    }
+
+    fn all(&mut self, what: &str, counts: &[u64]) {
+        for (i, &count) in counts.iter().enumerate() {
+            self.one(&format!("{what} ({i})"), count);
+        }
+    }
+
+    fn refusals(&mut self, call: &str, counts: &Refusals, possible: &[usize]) {
+        for (number, &count) in counts.iter().enumerate() {
+            if possible.contains(&number) {
+                self.one(&format!("{call} refusal {number}"), count);
+            } else if count > 0 {
+                self.0.push(format!("{call} gave the impossible refusal {number}"));
+            }
+        }
+    }
+
+    fn codes(&mut self, what: &str, possible: fn(u8) -> bool, counts: &[u64; 256]) {
+        for code in (0..=255).filter(|&code| possible(code)) {
+            self.one(&format!("{what}, code {code}"), counts[usize::from(code)]);
+        }
+    }
+}

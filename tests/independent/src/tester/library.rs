@@ -1,0 +1,40 @@
+//! The library under test: two static archives.
+
+use super::sides::Subject;
+use independent::boundary::{Address, Answer, Extent, Filled, Present, Wrote};
+
+#[link(name = "dhcpopt_reader", kind = "static")]
+extern "C" {
+    fn dhcpopt_lookup(
+        m: *const u8,
+        n: usize,
+        k0: u64,
+        k1: u64,
+        k2: u64,
+        k3: u64,
+        code: u8,
+    ) -> Answer;
+    fn dhcpopt_data(m: *const u8, n: usize, code: u8) -> Extent;
+    fn dhcpopt_text(m: *const u8, n: usize, k0: u64, k1: u64, k2: u64, k3: u64, code: u8)
+        -> Extent;
+    fn dhcpopt_address_step(list: *const u8, n: usize, at: usize) -> Address;
+    fn dhcpopt_present(m: *const u8, n: usize) -> Present;
+    fn dhcpopt_records(m: *const u8, n: usize, out: *mut u8, room: usize) -> Filled;
+}
+
+#[link(name = "dhcpopt_writer", kind = "static")]
+extern "C" {
+    fn dhcpopt_write(sheet: *const u8, n: usize, m: *mut u8, room: usize, permission: u8) -> Wrote;
+}
+
+pub fn library() -> Subject {
+    Subject {
+        lookup: dhcpopt_lookup,
+        data: dhcpopt_data,
+        text: dhcpopt_text,
+        address_step: dhcpopt_address_step,
+        present: dhcpopt_present,
+        records: dhcpopt_records,
+        write: dhcpopt_write,
+    }
+}

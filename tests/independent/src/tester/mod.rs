@@ -1,0 +1,14 @@
+//! The differential tester.
+
+pub mod broken;
+pub mod captures;
+pub mod compare;
+mod counts;
+pub mod edges;
+mod lent;
+pub mod library;
+mod messages;
+mod rng;
+mod sheets;
+pub mod sides;
+mod values;

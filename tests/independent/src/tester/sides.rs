@@ -1,0 +1,72 @@
+//! The two sides that are compared: the library under test, by its C
+//! functions, and the yardstick, by safe ones.
+
+use independent::boundary::{Address, Answer, Extent, Filled, Present, Wrote};
+use independent::rules::answers::Codes;
+
+type Asked = unsafe extern "C" fn(*const u8, usize, u64, u64, u64, u64, u8) -> Answer;
+type AskedText = unsafe extern "C" fn(*const u8, usize, u64, u64, u64, u64, u8) -> Extent;
+
+/// C functions that are to keep document 01.
+#[derive(Clone, Copy)]
+pub struct Subject {
+    pub lookup: Asked,
+    pub data: unsafe extern "C" fn(*const u8, usize, u8) -> Extent,
+    pub text: AskedText,
+    pub address_step: unsafe extern "C" fn(*const u8, usize, usize) -> Address,
+    pub present: unsafe extern "C" fn(*const u8, usize) -> Present,
+    pub records: unsafe extern "C" fn(*const u8, usize, *mut u8, usize) -> Filled,
+    pub write: unsafe extern "C" fn(*const u8, usize, *mut u8, usize, u8) -> Wrote,
+}
+
+/// What they are held to.
+#[derive(Clone, Copy)]
+pub struct Yardstick {
+    pub lookup: fn(&[u8], Codes, u8) -> Answer,
+    pub data: fn(&[u8], u8) -> Extent,
+    pub text: fn(&[u8], Codes, u8) -> Extent,
+    pub address_step: fn(&[u8], usize) -> Address,
+    pub present: fn(&[u8]) -> Present,
+    pub records: fn(&[u8], &mut [u8]) -> Filled,
+    pub write: fn(&[u8], &mut [u8], u8) -> Wrote,
+}
+
+/// The yardstick made of a module of rules.
+macro_rules! yardstick {
+    ($($rules:ident)::+) => {
+        $crate::tester::sides::Yardstick {
+            lookup: |m, known, code| $($rules)::+::reading::lookup(m, known, code).into(),
+            data: |m, code| $($rules)::+::reading::data(m, code).into(),
+            text: |m, known, code| $($rules)::+::reading::text(m, known, code).into(),
+            address_step: |list, at| {
+                let step = $($rules)::+::reading::address_step(list, at);
+                independent::boundary::Address::of_step(step, at)
+            },
+            present: |m| $($rules)::+::reading::present(m).into(),
+            records: |m, sheet| $($rules)::+::reading::records(m, sheet).into(),
+            write: |sheet, m, permission| {
+                $($rules)::+::writing::write(sheet, m, permission).into()
+            },
+        }
+    };
+}
+pub(crate) use yardstick;
+
+/// Document 01 as this package has it.
+pub fn independent_rules() -> Yardstick {
+    yardstick!(independent::rules)
+}
+
+/// This package's own exported functions, as a subject.
+pub fn own_exports() -> Subject {
+    use independent::boundary::*;
+    Subject {
+        lookup: independent_lookup,
+        data: independent_data,
+        text: independent_text,
+        address_step: independent_address_step,
+        present: independent_present,
+        records: independent_records,
+        write: independent_write,
+    }
+}

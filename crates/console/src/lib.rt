@@ -1,9 +1,11 @@
 // Bytes and numbers on standard output, for the programs that run cases.
+ghost use mathlib.Core.Path.{_≡_};
 ghost use Prim.Native.Nat.{_<_};
+ghost use Rattle.console.specs.Sum.{sumOf};
 
 // A byte as a number.
 pub fn wide(x: u8) -> u64
-    ensures { λ r. ⌜ r < 256 ⌝ }
+    ensures { λ r. ⌜ (r ≡ x) × (r < 256) ⌝ }
 {
     x as u64
 }
@@ -33,7 +35,9 @@ pub fn two(name: &[u8], a: usize, b: usize) {
 }
 
 // A number for a run of bytes: each byte adds itself to 31 times what was there.
-pub fn sum(s: &[u8]) -> u64 {
+pub fn sum(s: &[u8]) -> u64
+    ensures { λ r. ⌜ r ≡ sumOf 0 (now (s .entry)) ⌝ }
+{
     let mut t: u64 = 0;
     let mut i: usize = 0;
     while i < s.len() {

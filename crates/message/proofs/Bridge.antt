@@ -280,9 +280,51 @@ too-short : (want : ℕ) (m : List ℕ) → ltb (length m) 240 ≡ true → firs
 unfolding firstOf scanOf readMessage
 too-short want m q = rw q
 
+-- a refusal is handed on
+walked-fault : (want : ℕ) (m : List ℕ) (a : Walked) (n p : ℕ) → a .end ≡ Fault n p → a ≡ walked want m a
+unfolding walkIf
+walked-fault want m a n p e = go (fileIn (a .state .over)) (snameIn (a .state .over))
+  where
+    go : (f s : Bool) → a ≡ walkIf s sname want (bytes sname m) (walkIf f file want (bytes file m) a)
+    go false false = refl
+    go false true = rw e
+    go true false = rw e
+    go true true = rw e
+
 pub first-further : {want : ℕ} {m : List ℕ} {a r : flat.Walked} → AllBytes m → First want m a → Further want m a r → walkedOf r ≡ scanOf want m
 first-further {want} {m} {a} {r} b f g = g .is ∙ go (ltb (length m) 240) refl
   where
-    go : (x : Bool) → ltb (length m) 240 ≡ x → furtherOf want m (walkedOf a) ≡ scanOf want m
+    rest : walked want m (walkedOf a) ≡ scanOf want m
+    rest = ap (walked want m) (f .is) ∙ whole want m b
+
+    placed : (x : Bool) → eqb (a .place) 0 ≡ x → cond x (walked want m (walkedOf a)) (walkedOf a) ≡ scanOf want m
+    placed true q = rest
+    placed false q = walked-fault want m (walkedOf a) (a .number) (a .place) (rw (ne-eqb (a .number) 0 (λ z. eqb-false (a .place) 0 q (f .no-place z)))) ∙ rest
+
+    go : (x : Bool) → ltb (length m) 240 ≡ x → furtherOf want m a ≡ scanOf want m
     go true q = rw q (f .is ∙ too-short want m q)
-    go false q = rw (q, le-ltb 8192 (a .used) (f .small)) (ap (walked want m) (f .is) ∙ whole want m b)
+    go false q = rw (q, le-ltb 8192 (a .used) (f .small)) (placed (eqb (a .place) 0) refl)
+
+further-fault : (want : ℕ) (m : List ℕ) (a : flat.Walked) → (a .number ≡ 0 → ⊥) → furtherOf want m a ≡ walkedOf a
+further-fault want m a z = go (ltb (length m) 240) (ltb 8192 (a .used)) (eqb (a .place) 0)
+  where
+    on : walked want m (walkedOf a) ≡ walkedOf a
+    on = sym (walked-fault want m (walkedOf a) (a .number) (a .place) (rw (ne-eqb (a .number) 0 z)))
+
+    go : (x y w : Bool) → cond x (walkedOf a) (cond y (walkedOf a) (cond w (walked want m (walkedOf a)) (walkedOf a))) ≡ walkedOf a
+    go true y w = refl
+    go false true w = refl
+    go false false true = on
+    go false false false = refl
+
+pub first-place : {want : ℕ} {m : List ℕ} {a r : flat.Walked} → First want m a → Further want m a r → r .number ≡ 0 → r .place ≡ 0
+first-place {want} {m} {a} {r} f g z = go (eqb (a .number) 0) refl
+  where
+    no-fault : (n p : ℕ) → Closed ≡ Fault n p → ⊥
+    no-fault n p e = let k : _≡_ {A = ℕ} 0 1 = cc in omega arith
+
+    go : (x : Bool) → eqb (a .number) 0 ≡ x → r .place ≡ 0
+    go true q = g .place z ∙ f .no-place (eqb-true (a .number) 0 q)
+    go false q =
+        let e : walkedOf r .end ≡ walkedOf a .end = ap (λ (w : Walked). w .end) (g .is ∙ further-fault want m a (eqb-false (a .number) 0 q)) in
+        absurd (no-fault (a .number) (a .place) (rw (z, q) at e))

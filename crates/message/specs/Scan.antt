@@ -4,7 +4,7 @@ use mathlib.Core.Bool.{Bool, true, false, cond}
 use mathlib.Core.List.{List, [], _∷_}
 use Prim.Native.Nat.{ℕ, _+_, _≤_}
 use lib.ListN.{length, take, drop}
-use lib.Dec.{ltb}
+use lib.Dec.{ltb, eqb}
 use Rattle.options.specs.Message.{Field, options, file, sname, turn, bytes, cookie, shortest, longest, Rec, Opt}
 use Rattle.options.specs.Reading.{Reading, accepted, refused, items, readMessage, same, fileIn, snameIn}
 use Rattle.wire.specs.Walk.{State, End, Closed, Fault, Walked, walkedOf, noState, stopped, sizeOf, noted, walkField}
@@ -56,9 +56,9 @@ firstOf want m =
 abbrev pub walked : ℕ → List ℕ → Walked → Walked
 walked want m a = walkIf (snameIn (a .state .over)) sname want (bytes sname m) (walkIf (fileIn (a .state .over)) file want (bytes file m) a)
 
--- "Lengths 240 to 1,472 are handled": what cannot come of such a message is given back
-abbrev pub furtherOf : ℕ → List ℕ → Walked → Walked
-furtherOf want m a = cond (ltb (length m) shortest) a (cond (ltb 8192 (a .used)) a (walked want m a))
+-- a refusal, and what cannot come of a message of 240 to 1,472 bytes, are given back
+abbrev pub furtherOf : ℕ → List ℕ → flat.Walked → Walked
+furtherOf want m a = cond (ltb (length m) shortest) (walkedOf a) (cond (ltb 8192 (a .used)) (walkedOf a) (cond (eqb (a .place) 0) (walked want m (walkedOf a)) (walkedOf a)))
 
 pub record First (want : ℕ) (m : List ℕ) (r : flat.Walked) : Type 0 where
   pub is : walkedOf r ≡ firstOf want m
@@ -66,8 +66,8 @@ pub record First (want : ℕ) (m : List ℕ) (r : flat.Walked) : Type 0 where
   pub no-place : r .number ≡ 0 → r .place ≡ 0
 
 pub record Further (want : ℕ) (m : List ℕ) (a r : flat.Walked) : Type 0 where
-  pub is : walkedOf r ≡ furtherOf want m (walkedOf a)
-  pub no-place : (a .number ≡ 0 → a .place ≡ 0) → r .number ≡ 0 → r .place ≡ 0
+  pub is : walkedOf r ≡ furtherOf want m a
+  pub place : r .number ≡ 0 → r .place ≡ a .place
 
 -- r is what is wanted, and its options take at most the field more than those of w
 pub record Grown (w : flat.Walked) (f : List ℕ) (wanted : Walked) (r : flat.Walked) : Type 0 where

@@ -119,6 +119,9 @@ pub fn further(m: &[u8], want: u8, a: Walked) -> Walked
     if 8192 < a.used {
         return a;
     }
+    if a.place != 0 {
+        return a;
+    }
     let v = a.over;
     let b = walk_if(file_on(v), Field::File, &m[108..236], want, a);
     walk_if(sname_on(v), Field::Sname, &m[44..108], want, b)

@@ -1,7 +1,7 @@
 -- `message::scan` meets its contract. Assumes nothing.
 use borrow.Author.Needs.{needs}
 use Rattle.options.specs.KindClaims.{AllBytes}
-use Rattle.message.proofs.Bridge.{all-bytes, first-alone, first-further}
+use Rattle.message.proofs.Bridge.{all-bytes, first-alone, first-further, first-place}
 use Rattle.message.proofs.scan.Statement.{statement}
 use Rattle.message.proofs.scan.Tie as tie
 
@@ -21,7 +21,7 @@ returns-2 : tie.Need-returns-2
 returns-2 c =
     let m = c .before .before .before .before .args .m .now in
     let k : AllBytes m = all-bytes m (λ i. c .before .before .before .shared-slice-known .given i .fits) in
-    record { is = first-further k (c .before .before .first .ensures) (c .further .ensures); no-place = c .further .ensures .no-place (c .before .before .first .ensures .no-place) }
+    record { is = first-further k (c .before .before .first .ensures) (c .further .ensures); no-place = first-place (c .before .before .first .ensures) (c .further .ensures) }
 
 pub scan-spec : {M : Type 1} → statement M
 scan-spec = tie.close (tie.spec first-requires returns further-requires returns-2)

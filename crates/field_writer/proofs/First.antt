@@ -9,7 +9,7 @@ use borrow.Author.Tests.{ne-eqb}
 use Rattle.options.specs.Message.{Rec}
 use Rattle.options.specs.Writing.{with52}
 use Rattle.field_writer.specs.Fill.{nextSize, filled, taken, past52}
-use Rattle.field_writer.proofs.Bytes.{mid-rest, put-rest}
+use Rattle.buffer.proofs.Copied.{mid-rest, put-rest}
 use Rattle.field_writer.proofs.Sheets.{no-room}
 use Rattle.field_writer.proofs.Filling.{fill-more, ends}
 

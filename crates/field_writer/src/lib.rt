@@ -114,7 +114,9 @@ pub fn fill_options(field: &mut [u8], plan: u8, s: &[u8]) -> usize
         close(field);
         return 0;
     }
-    let value = [plan; 1];
-    put_option(field, 52, &value);
+    // Stored here, so that `put_option` has one caller and is compiled into its loop.
+    field[0] = 52;
+    field[1] = 1;
+    field[2] = plan;
     fill(&mut field[3..], s, 0)
 }

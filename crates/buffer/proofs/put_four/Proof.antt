@@ -1,8 +1,6 @@
 -- `buffer::put_four` meets its contract. Assumes nothing.
 use native.Mathlib.Omega.{arith}
 use native.Mathlib.Nat.{add-zero}
-use mathlib.Core.Path.{_≡_, sym}
-use Prim.Native.Nat.{_+_}
 use lib.ListN.{length-set}
 use denote.Ref.{now}
 use Rattle.buffer.proofs.Laws.{stored-is}

@@ -13,7 +13,7 @@ use Rattle.options.specs.Message.{Rec}
 use Rattle.options.specs.Answers.{recordBytes}
 use Rattle.options.specs.Writing.{size, optionBytes, fits, fieldBytes}
 use Rattle.field_writer.specs.Fill.{sheetRecords, nextSize, filled, taken}
-use Rattle.field_writer.proofs.Bytes.{mid-rest, put-rest}
+use Rattle.buffer.proofs.Copied.{mid-rest, put-rest}
 use Rattle.field_writer.proofs.Sheets.{recordAt, Next}
 
 abbrev pub option : Rec → List ℕ

@@ -12,18 +12,6 @@ fn wide(x: u8) -> usize
     x as usize
 }
 
-// Copies src to the start of dst.
-fn copy_in(dst: &mut [u8], src: &[u8])
-    requires { ⌜ length (now src) ≤ length (now dst) ⌝ }
-    ensures { λ _. ⌜ now (dst .exit) ≡ now (src .entry) ++ drop (length (now (src .entry))) (now (dst .entry)) ⌝ }
-{
-    let mut i = 0;
-    while i < src.len() {
-        dst[i] = src[i];
-        i += 1;
-    }
-}
-
 // Writes one option at the start of the room.
 fn put_option(room: &mut [u8], code: u8, body: &[u8])
     requires { ⌜ (length (now body) ≤ 255) × (length (now body) + 2 ≤ length (now room)) ⌝ }
@@ -31,7 +19,7 @@ fn put_option(room: &mut [u8], code: u8, body: &[u8])
 {
     room[0] = code;
     room[1] = body.len() as u8;
-    copy_in(&mut room[2..], body);
+    buffer::copy(&mut room[2..], body);
 }
 
 fn clear(room: &mut [u8])
@@ -126,7 +114,9 @@ pub fn fill_options(field: &mut [u8], plan: u8, s: &[u8]) -> usize
         close(field);
         return 0;
     }
-    let value = [plan; 1];
-    put_option(field, 52, &value);
+    // Stored here, so that `put_option` has one caller and is compiled into its loop.
+    field[0] = 52;
+    field[1] = 1;
+    field[2] = plan;
     fill(&mut field[3..], s, 0)
 }

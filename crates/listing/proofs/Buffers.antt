@@ -6,7 +6,7 @@ use native.Mathlib.Nat.{add-zero}
 use native.Mathlib.Numerals.{add-one}
 use native.Mathlib.Omega.{arith}
 use lib.ListN.{length, take, drop, set, length-append, take-append-drop}
-use lib.Seq.{paste, take-length, length-take-le, take-at, drop-at, drop-drop, set-split}
+use lib.Seq.{length-take-le, take-at, drop-at, drop-drop, set-split}
 use Rattle.listing.specs.Text.{laid, Puts}
 
 laid-nil : (b : List ℕ) (at : ℕ) → laid b at [] ≡ b
@@ -28,9 +28,6 @@ laid-laid b at xs ys h =
 
 pub puts-byte : (b : List ℕ) (at x : ℕ) → at < length b → Puts (x ∷ []) b at (at + 1) (set b at x)
 puts-byte b at x h = record { next = refl; text = rw add-one (set-split b at x h) }
-
-pub puts-paste : (b : List ℕ) (at : ℕ) (xs : List ℕ) → Puts xs b at (at + length xs) (paste b at xs (length xs))
-puts-paste b at xs = record { next = refl; text = rw take-length (append-assoc (take at b) xs (drop (at + length xs) b)) }
 
 pub puts-none : (b : List ℕ) (at : ℕ) → Puts [] b at at b
 puts-none b at = record { next = sym (add-zero at); text = sym (laid-nil b at) }

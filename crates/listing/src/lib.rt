@@ -24,12 +24,8 @@ fn put_word(out: &mut [u8], at: usize, word: &[u8]) -> usize
     requires { ⌜ at + length (now word) ≤ length (now out) ⌝ }
     ensures { λ r. ⌜ Puts (now (word .entry)) (now (out .entry)) at r (now (out .exit)) ⌝ }
 {
-    let mut i: usize = 0;
-    while i < word.len() {
-        out[at + i] = word[i];
-        i = i + 1;
-    }
-    at + i
+    buffer::copy(&mut out[at..], word);
+    at + word.len()
 }
 
 // A number in decimal: the digits before the last one, then that one.

@@ -5,11 +5,8 @@ use Prim.Native.Nat.{ℕ, suc, _+_, _≤_}
 use native.Mathlib.Nat.{add-zero}
 use native.Mathlib.Omega.{arith}
 use lib.ListN.{length, take, drop, set, length-append, take-append-drop}
-use lib.Seq.{paste, take-length, length-take-le, take-at, drop-at, drop-drop, sets-eq}
+use lib.Seq.{length-take-le, take-at, drop-at, drop-drop, sets-eq}
 use Rattle.records.specs.Fill.{laid}
-
-pub paste-laid : (d : List ℕ) (at : ℕ) (s : List ℕ) → paste d at s (length s) ≡ laid d at s
-paste-laid d at s = rw take-length (append-assoc (take at d) s (drop (at + length s) d))
 
 pub laid-nil : (d : List ℕ) (at : ℕ) → laid d at [] ≡ d
 laid-nil d at = rw add-zero (take-append-drop at d)

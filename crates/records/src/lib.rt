@@ -15,18 +15,6 @@ pub enum Given {
     Refused { number: u32, place: usize },
 }
 
-// Lays src over out from at on.
-fn copy_in(out: &mut [u8], at: usize, src: &[u8])
-    requires { ⌜ at + length (now src) ≤ length (now out) ⌝ }
-    ensures { λ _. ⌜ now (out .exit) ≡ laid (now (out .entry)) at (now (src .entry)) ⌝ }
-{
-    let mut j = 0;
-    while j < src.len() {
-        out[at + j] = src[j];
-        j = j + 1;
-    }
-}
-
 // Lays one record over out from at on. Data of an option has fewer than 256 bytes, so the length's high byte is 0.
 fn put_record(out: &mut [u8], at: usize, code: u8, body: &[u8])
     requires { ⌜ (at + 3 + length (now body) ≤ length (now out)) × (length (now body) < 256) ⌝ }
@@ -35,7 +23,7 @@ fn put_record(out: &mut [u8], at: usize, code: u8, body: &[u8])
     out[at] = code;
     out[at + 1] = 0;
     out[at + 2] = body.len() as u8;
-    copy_in(out, at + 3, body);
+    buffer::copy(&mut out[at + 3..], body);
 }
 
 // Lays the records of a field's options over out from at on, and gives the place after them.

@@ -1,7 +1,8 @@
 -- `field_writer::fill_options` meets its contract. Assumes nothing.
+use mathlib.Core.Path.{_∙_}
 use mathlib.Core.List.{List}
 use Prim.Native.Nat.{_≤_}
-use lib.ListN.{length}
+use lib.ListN.{length, length-set}
 use denote.Ref.{now}
 use native.Mathlib.Omega.{arith}
 use Rattle.options.specs.Message.{Rec}
@@ -36,17 +37,20 @@ returns-2 c =
     let call = c .before .before .close in
     shut (start .plan) (sheetRecords 0 (now (start .s))) (branch .before .if1 .left) _ (call .last .0) (omega (arith, branch .if2 .taken)) (call .ensures)
 
-slice-aggregate-put-option : tie.Need-slice-aggregate-put-option
-slice-aggregate-put-option c = search needs
+slice-write-field : tie.Need-slice-write-field
+slice-write-field c = search needs
 
-put-option-requires : tie.Need-put-option-requires
-put-option-requires c κs = search needs
+slice-write-field-2 : tie.Need-slice-write-field-2
+slice-write-field-2 c = simp length-set (omega (arith, c .if2 .left))
+
+slice-write-field-3 : tie.Need-slice-write-field-3
+slice-write-field-3 c = simp length-set (omega (arith, c .if2 .left))
 
 sub-fill : tie.Need-sub-fill
-sub-fill c = search needs
+sub-fill c = simp length-set (omega (arith, c .if2 .left))
 
 part-fill-start : tie.Need-part-fill-start
-part-fill-start c = search needs
+part-fill-start c = simp length-set (omega (arith, c .if2 .left))
 
 part-fill-end : tie.Need-part-fill-end
 part-fill-end c = search needs
@@ -55,18 +59,17 @@ fill-requires-2 : tie.Need-fill-requires-2
 fill-requires-2 c κs = search needs
 
 same-length-3 : tie.Need-same-length-3
-same-length-3 c = search needs
+same-length-3 c = c .before .field3 .given .1 ∙ simp length-set
 
 returns-3 : tie.Need-returns-3
 returns-3 c =
-    let branch = c .before .before .before .before .before .before .before .before .before in
+    let branch = c .before .before .before .before in
     let start = branch .before .before .before .before .args in
     let rs : List Rec = sheetRecords 0 (now (start .s)) in
-    let put = c .before .before .before .before .before .before .put-option in
     let call = c .before .before .fill2 in
     let room : 4 ≤ length (now (start .field)) = omega (arith, branch .if2 .left) in (
-      after (start .plan) rs (branch .before .if1 .left) (now (start .field)) (put .last .0) (call .last .0) room (put .ensures) (put .kept .0) (call .ensures .0),
-      place52 (start .plan) rs (branch .before .if1 .left) (now (start .field)) (put .last .0) (call .last .0) room (put .ensures) (put .kept .0) (call .result) (call .ensures .1),
+      after (start .plan) rs (branch .before .if1 .left) (now (start .field)) (call .last .0) room (call .ensures .0),
+      place52 (start .plan) rs (branch .before .if1 .left) (now (start .field)) (call .last .0) room (call .result) (call .ensures .1),
     )
 
 pub fill-options-spec : {M : Type 1} → statement M
@@ -79,8 +82,9 @@ fill-options-spec =
     close-requires
     same-length-2
     returns-2
-    slice-aggregate-put-option
-    put-option-requires
+    slice-write-field
+    slice-write-field-2
+    slice-write-field-3
     sub-fill
     part-fill-start
     part-fill-end

@@ -2,7 +2,7 @@
 use borrow.Author.Needs.{needs}
 use native.Mathlib.Omega.{arith}
 use mathlib.Core.Path.{_∙_}
-use lib.ListN.{length-set, length-take, length-drop}
+use lib.ListN.{length-set}
 use denote.Ref.{now}
 use Rattle.field_writer.proofs.Bytes.{put-head}
 use Rattle.field_writer.proofs.put_option.Statement.{statement}
@@ -17,17 +17,17 @@ cast-room c = search needs
 slice-write-room-2 : tie.Need-slice-write-room-2
 slice-write-room-2 c = simp length-set (omega arith)
 
-sub-copy-in : tie.Need-sub-copy-in
-sub-copy-in c = simp length-set (omega arith)
+sub-copy : tie.Need-sub-copy
+sub-copy c = simp length-set (omega arith)
 
-part-copy-in-start : tie.Need-part-copy-in-start
-part-copy-in-start c = simp length-set (omega arith)
+part-copy-start : tie.Need-part-copy-start
+part-copy-start c = simp length-set (omega arith)
 
-part-copy-in-end : tie.Need-part-copy-in-end
-part-copy-in-end c = search needs
+part-copy-end : tie.Need-part-copy-end
+part-copy-end c = search needs
 
-copy-in-requires : tie.Need-copy-in-requires
-copy-in-requires c κs = simp (length-take, length-drop, length-set) (omega arith)
+copy-requires : tie.Need-copy-requires
+copy-requires c κs = search needs
 
 same-length : tie.Need-same-length
 same-length c = c .before .room .given .1 ∙ simp length-set
@@ -35,7 +35,7 @@ same-length c = c .before .room .given .1 ∙ simp length-set
 returns : tie.Need-returns
 returns c =
     let start = c .before .before .before .before .before .before in
-    put-head (now (start .args .room)) (now (start .args .body)) (c .before .before .copy-in .last .0) (start .args .code) _ (omega arith) (c .before .before .copy-in .ensures)
+    put-head (now (start .args .room)) (now (start .args .body)) (c .before .before .copy .last .0) (start .args .code) _ (start .pre .1) (c .before .before .copy .ensures)
 
 pub put-option-spec : {M : Type 1} → statement M
 put-option-spec =
@@ -44,9 +44,9 @@ put-option-spec =
     slice-write-room
     cast-room
     slice-write-room-2
-    sub-copy-in
-    part-copy-in-start
-    part-copy-in-end
-    copy-in-requires
+    sub-copy
+    part-copy-start
+    part-copy-end
+    copy-requires
     same-length
     returns)

@@ -1,10 +1,11 @@
 -- `records::put_record` meets its contract. Assumes nothing.
 use borrow.Author.Needs.{needs}
 use native.Mathlib.Omega.{arith}
-use mathlib.Core.Path.{refl, _∙_}
-use mathlib.Core.List.{[], _∷_}
-use Prim.Native.Nat.{ℕ}
-use lib.ListN.{length, length-set}
+use mathlib.Core.Path.{_∙_}
+use mathlib.Core.List.{List, [], _∷_}
+use Prim.Native.Nat.{ℕ, _+_}
+use lib.ListN.{length, set, length-set}
+use Rattle.buffer.proofs.Copied.{put-copied}
 use Rattle.records.proofs.Buffers.{laid-three, laid-laid}
 use Rattle.records.proofs.put_record.Statement.{statement}
 use Rattle.records.proofs.put_record.Tie as tie
@@ -27,22 +28,32 @@ add-out-2 c = search needs
 slice-write-out-3 : tie.Need-slice-write-out-3
 slice-write-out-3 c = simp length-set (omega arith)
 
-add-copy-in : tie.Need-add-copy-in
-add-copy-in c = search needs
+add-copy : tie.Need-add-copy
+add-copy c = search needs
 
-copy-in-requires : tie.Need-copy-in-requires
-copy-in-requires c κs = search needs
+sub-copy : tie.Need-sub-copy
+sub-copy c = simp length-set (omega arith)
+
+part-copy-start : tie.Need-part-copy-start
+part-copy-start c = simp length-set (omega arith)
+
+part-copy-end : tie.Need-part-copy-end
+part-copy-end c = search needs
+
+copy-requires : tie.Need-copy-requires
+copy-requires c κs = search needs
 
 same-length : tie.Need-same-length
-same-length c = c .before .before .copy-in .kept .0 ∙ simp length-set refl
+same-length c = c .before .out .given .1 ∙ simp length-set
 
 returns : tie.Need-returns
 returns c =
     let s = c .before .before .before .before .before .before in
     let a = s .args in
     let n : ℕ = length (a .body .now) in
-    rw (c .before .before .copy-in .ensures, laid-three (a .out .now) (a .at) (a .code) 0 n (omega (arith, s .pre .0)))
-    (laid-laid (a .out .now) (a .at) (a .code ∷ 0 ∷ n ∷ []) (a .body .now) (omega (arith, s .pre .0)))
+    let x : List ℕ = set (set (set (a .out .now) (a .at) (a .code)) (a .at + 1) 0) (a .at + 2) n in
+    put-copied (a .at + 3) x (c .before .before .copy .last .0) (a .body .now) (simp length-set (s .pre .0)) (c .before .before .copy .ensures)
+    ∙ rw (laid-three (a .out .now) (a .at) (a .code) 0 n (omega (arith, s .pre .0))) (laid-laid (a .out .now) (a .at) (a .code ∷ 0 ∷ n ∷ []) (a .body .now) (omega (arith, s .pre .0)))
 
 pub put-record-spec : {M : Type 1} → statement M
 put-record-spec =
@@ -54,7 +65,10 @@ put-record-spec =
     cast-out
     add-out-2
     slice-write-out-3
-    add-copy-in
-    copy-in-requires
+    add-copy
+    sub-copy
+    part-copy-start
+    part-copy-end
+    copy-requires
     same-length
     returns)

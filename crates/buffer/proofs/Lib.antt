@@ -1,0 +1,3 @@
+pub mod Laws
+-- For callers
+pub mod Copied

@@ -184,6 +184,7 @@ dhcpopt_filled dhcpopt_records(const uint8_t *message, size_t size, uint8_t *out
  * and sname the plan uses, each to its last byte; the header and an unused file or sname stay as they were.
  * A refusal leaves all of the buffer as it was. Refused, in this order: 1 or 2 at size; 15 at 0; 16 at sheet_size; the first faulty
  * record at its tag byte: 12, 10, 13, 7, 8, 9; then 14 at the byte of tag 3; then 11 at size.
+ * permission is one byte: C cuts a larger number to its low byte before the call, 259 to 3.
  */
 dhcpopt_wrote dhcpopt_write(const uint8_t *sheet, size_t sheet_size, uint8_t *buffer, size_t size, uint8_t permission);
 

@@ -55,14 +55,14 @@ fn next_size(s: &[u8], at: usize, room: usize) -> usize
     if s[at + 1] != 0 {
         return 0;
     }
-    let n = wide(s[at + 2]);
-    if left - 3 < n {
+    let size = wide(s[at + 2]) + 2;
+    if left <= size {
         return 0;
     }
-    if room <= n + 2 {
+    if room <= size {
         return 0;
     }
-    n + 3
+    size + 1
 }
 
 // Where `fill` would stop in a field of so many bytes; nothing is written.

@@ -11,6 +11,9 @@ use borrow.Author.Needs.{needs}
 use Rattle.field_writer.proofs.next_size.Statement.{statement}
 use Rattle.field_writer.proofs.next_size.Tie as tie
 
+three-more : {k n : ℕ} → k ≡ n → k + 2 + 1 ≡ n + 3
+three-more e = omega arith
+
 sub-left : tie.Need-sub-left
 sub-left c = search needs
 
@@ -42,6 +45,9 @@ shared-slice-read-wide c = search needs
 wide-requires : tie.Need-wide-requires
 wide-requires c κs = search needs
 
+add-size : tie.Need-add-size
+add-size c = search needs
+
 returns-3 : tie.Need-returns-3
 returns-3 c =
     let a = c .before .before .before .before .before .before .before .args in
@@ -50,9 +56,6 @@ returns-3 c =
     let h : at + 3 ≤ length s = omega (arith, c .before .before .before .before .before .if1 .left) in
     let n : c .before .wide .result ≡ sizeAt s at = omega (arith, c .before .wide .ensures .0, c .before .before .before .if2 .left) in
     none-next (a .room) (sheetRecords 0 (drop at s)) (none-cut s at h (omega (arith, c .if3 .taken, n)))
-
-add-if4 : tie.Need-add-if4
-add-if4 c = search needs
 
 returns-4 : tie.Need-returns-4
 returns-4 c =
@@ -77,7 +80,7 @@ returns-5 c =
     let n : c .before .before .wide .result ≡ sizeAt s at = omega (arith, c .before .before .wide .ensures .0, c .before .before .before .before .if2 .left) in
     let w : sizeAt s at ≤ length s - at - 3 = omega (arith, c .before .if3 .left, n) in
     let l : sizeAt s at ≤ 255 = omega (arith, c .before .before .wide .ensures .1, n) in
-    ap (λ (k : ℕ). k + 3) n
+    three-more n
     ∙ has-room (a .room) (sizeAt s at) (recordAt s at (sizeAt s at)) _ (sheetRecords 0 (drop at s)) (one s at h w l) (size-is s at h w) (omega (arith, c .if4 .left, n))
 
 pub next-size-spec : {M : Type 1} → statement M
@@ -92,8 +95,8 @@ next-size-spec =
     add-wide
     shared-slice-read-wide
     wide-requires
+    add-size
     returns-3
-    add-if4
     returns-4
     add-result
     returns-5)

@@ -1,6 +1,6 @@
 -- The loop that judges a sheet: what is left of it gives the verdict on the whole. Assumes nothing.
 use mathlib.Core.Path.{_≡_, refl, sym, ap, ap₂, _∙_}
-use mathlib.Core.List.{List, [], _∷_}
+use mathlib.Core.List.{List, [], _∷_, _++_}
 use mathlib.Core.Bool.{Bool, true, false}
 use Prim.Native.Nat.{ℕ, suc, _+_, _-_, _/_, _%_, _^_, _<_, _≤_}
 use native.Mathlib.Omega.{arith}
@@ -9,15 +9,15 @@ use lib.Dec.{eqb}
 use lib.ListN.{length, drop, getD, length-drop, drop-of-length-le}
 use lib.Seq.{drop-cons, drop-drop}
 use borrow.Author.Tests.{ltb-false, eqb-true, eqb-false}
-use Rattle.options.specs.Reading.{among}
+use Rattle.options.specs.Reading.{either, among}
 use Rattle.options.specs.CodeSet.{marked, withMark}
 use Rattle.options.specs.Kinds.{kinds}
-use Rattle.options.specs.Writing.{Sheet, keep, recordCut, sizeIn, sheetRecord, tested, rules, sheetFrom, sheet}
+use Rattle.options.specs.Writing.{Sheet, keep, recordCut, wrongTag, sizeIn, sheetRecord, tested, rules, sheetFrom, sheet}
 use Rattle.codeset.specs.Codes.{Marks}
 use Rattle.codeset.proofs.Words.{or-marked, or-unmarked}
 use Rattle.codeset.proofs.Codes.{marks-add, marks-none}
-use Rattle.sheet.specs.Judge.{judgeOf, firstBroken, rulesFor, threeAfter, oneAfter, orderOf}
-use Rattle.sheet.proofs.Rules.{clash, n, cut-is, size-is, body-length, tested-faulty, Kept, all-kept, tested-kept, sure, from-skip}
+use Rattle.sheet.specs.Judge.{judgeOf, firstBroken, metBroken, threeAfter, oneAfter, orderOf}
+use Rattle.sheet.proofs.Rules.{clash, met-first, n, cut-is, size-is, body-length, tested-faulty, Kept, all-kept, tested-kept, sure, from-skip}
 use Rattle.sheet.proofs.ThreeOne.{orderFrom, verdictFrom, keep-verdict, whole}
 
 -- a tag is met again where marking it changes nothing
@@ -28,16 +28,42 @@ again-is w c = go (eqb (bitOr (getD w (c / 64) 0) (2 ^ (c % 64))) (getD w (c / 6
     go true q = sym (or-marked (getD w (c / 64) 0) (c % 64) (eqb-true _ _ q))
     go false q = sym (or-unmarked (getD w (c / 64) 0) (c % 64) (eqb-false _ _ q))
 
--- the words w mark the tags before `at`, and what is left gives the verdict
+-- the tags that may not stand
+abbrev noTags : List ℕ
+noTags = 255 ∷ 52 ∷ 0 ∷ []
+
+either-none : (x y z : Bool) → either x (either y (either z false)) ≡ either (either z (either y x)) false
+either-none true true true = refl
+either-none true true false = refl
+either-none true false true = refl
+either-none true false false = refl
+either-none false true true = refl
+either-none false true false = refl
+either-none false false true = refl
+either-none false false false = refl
+
+either-more : (x y z : Bool) → either x (either y z) ≡ either y (either x z)
+either-more true true z = refl
+either-more true false z = refl
+either-more false y z = refl
+
+met-among : (b : ℕ) (seen : List ℕ) → among b (seen ++ noTags) ≡ either (wrongTag b) (among b seen)
+met-among b [] = either-none (eqb b 255) (eqb b 52) (eqb b 0)
+met-among b (x ∷ seen) = ap (either (eqb b x)) (met-among b seen) ∙ either-more (eqb b x) (wrongTag b) (among b seen)
+
+marks-begin : Marks (4503599627370497 ∷ 0 ∷ 0 ∷ 9223372036854775808 ∷ []) noTags
+marks-begin = marks-add _ (52 ∷ 0 ∷ []) 255 (omega arith) refl (marks-add _ (0 ∷ []) 52 (omega arith) refl (marks-add _ [] 0 (omega arith) refl marks-none))
+
+-- the words w mark those and the tags before `at`, and what is left gives the verdict
 pub record Judging (s w : List ℕ) (three : ℕ) (one : Bool) (k at : ℕ) : Type 0 where
   pub seen : List ℕ
   pub at-in : at ≤ length s
   pub few : k ≤ at
-  pub marks : Marks w seen
+  pub marks : Marks w (seen ++ noTags)
   pub same : verdictFrom three one k at (sheetFrom kinds seen at 0 (drop at s)) ≡ judgeOf s
 
 module _ (s w : List ℕ) (three : ℕ) (one : Bool) (k at : ℕ) (f : Judging s w three one k at) (h : at < length s) (small : getD s at 0 < 256) (x : ℕ)
-    (e : x ≡ firstBroken (rulesFor (eqb (bitOr (getD w (getD s at 0 / 64) 0) (2 ^ (getD s at 0 % 64))) (getD w (getD s at 0 / 64) 0)) (getD s at 0) (drop (suc at) s))) where
+    (e : x ≡ metBroken (eqb (bitOr (getD w (getD s at 0 / 64) 0) (2 ^ (getD s at 0 % 64))) (getD w (getD s at 0 / 64) 0)) (getD s at 0) (drop (suc at) s)) where
   b : ℕ
   b = getD s at 0
 
@@ -50,7 +76,7 @@ module _ (s w : List ℕ) (three : ℕ) (one : Bool) (k at : ℕ) (f : Judging s
 
   e′ : x ≡ firstBroken (rules kinds (f .seen) b bs)
   unfolding b bs
-  e′ = e ∙ ap (λ (again : Bool). firstBroken (rulesFor again b bs)) (again-is w b ∙ f .marks .bits b small)
+  e′ = e ∙ ap (λ (met : Bool). metBroken met b bs) (again-is w b ∙ f .marks .bits b small ∙ met-among b (f .seen)) ∙ met-first (among b (f .seen)) b bs
 
   here : sheetFrom kinds (f .seen) at 0 (drop at s) ≡ tested (rules kinds (f .seen) b bs) at (keep (sheetRecord b bs) after)
   unfolding b bs after sheetFrom
@@ -120,12 +146,12 @@ module _ (s w : List ℕ) (three : ℕ) (one : Bool) (k at : ℕ) (f : Judging s
 
     pub moves : Judging s (withMark w (getD s at 0)) (threeAfter three one (getD s at 0) (at + 1)) (oneAfter one (getD s at 0)) (k + 1) (at + 3 + low)
     unfolding b
-    moves = record { seen = b ∷ f .seen; at-in = within; few = omega (arith, f .few); marks = marks-add w (f .seen) b small (kept .1 .1 .1 .0) (f .marks); same = goes-on }
+    moves = record { seen = b ∷ f .seen; at-in = within; few = omega (arith, f .few); marks = marks-add w (f .seen ++ noTags) b small (met-among b (f .seen) ∙ (rw (kept .1 .0, kept .1 .1 .1 .0))) (f .marks); same = goes-on }
 
 -- where the loop begins, and where no record is left
-pub begins : (s : List ℕ) → Judging s (0 ∷ 0 ∷ 0 ∷ 0 ∷ []) 0 false 0 0
+pub begins : (s : List ℕ) → Judging s (4503599627370497 ∷ 0 ∷ 0 ∷ 9223372036854775808 ∷ []) 0 false 0 0
 unfolding sheet judgeOf
-begins s = record { seen = []; at-in = omega arith; few = omega arith; marks = marks-none; same = whole (sheet kinds s) }
+begins s = record { seen = []; at-in = omega arith; few = omega arith; marks = marks-begin; same = whole (sheet kinds s) }
 
 pub ends : (s w : List ℕ) (three : ℕ) (one : Bool) (k at : ℕ) → Judging s w three one k at → length s ≤ at → orderOf three one k ≡ judgeOf s
 unfolding sheetFrom orderFrom

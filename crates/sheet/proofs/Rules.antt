@@ -11,9 +11,10 @@ use lib.Seq.{drop-cons, length-take-le}
 use lib.Dec.{ltb}
 use borrow.Author.Tests.{lt-ltb, le-ltb, eq-eqb, ne-eqb}
 use Rattle.options.specs.Kinds.{Kind, address, addresses, pairs, flag, octet, number16, numbers16, unsigned32, signed32, text, opaque, Value, broken, number, part, kindOf, hasRow, judgedBy, judged, meaning, lengthFits, valueFits, kinds}
+use Rattle.options.specs.Reading.{either}
 use Rattle.options.specs.Writing.{Sheet, faulty, Rule, recordCut, wrongTag, sizeIn, sheetRecord, isBroken, brokenBy, breaksKind, tested, sheetFrom}
 use Rattle.kinds.specs.Numbers.{numberOfFault, faultOf}
-use Rattle.sheet.specs.Judge.{firstBroken, rulesFor}
+use Rattle.sheet.specs.Judge.{firstBroken, rulesFor, tagBroken, metBroken}
 
 -- from two constructors that differ, anything
 pub clash {ℓ} : {X : Type ℓ} → _≡_ {A = ℕ} 0 1 → X
@@ -63,24 +64,33 @@ kind-sure (some k) c d q e = two (lengthFits k c (length d)) (valueFits k c d) q
 
 -- ---- The first rule that is broken
 
-module _ (again : Bool) (b : ℕ) (bs : List ℕ) where
-  pub first-12 : recordCut bs ≡ true → firstBroken (rulesFor again b bs) ≡ 12
-  first-12 h = rw h
+-- what the code tests, with the tags that may not stand among those met, is what the rules say
+met-is : (cut wrong over again : Bool) (k : ℕ) → cond cut 12 (cond (either wrong again) (cond wrong 10 (cond over 13 7)) (cond over 13 k)) ≡ cond cut 12 (cond wrong 10 (cond over 13 (cond again 7 k)))
+met-is true wrong over again k = refl
+met-is false true over again k = refl
+met-is false false true true k = refl
+met-is false false true false k = refl
+met-is false false false true k = refl
+met-is false false false false k = refl
+
+pub met-first : (again : Bool) (b : ℕ) (bs : List ℕ) → metBroken (either (wrongTag b) again) b bs ≡ firstBroken (rulesFor again b bs)
+met-first again b bs =
+    met-is (recordCut bs) (wrongTag b) (ltb 255 (sizeIn bs)) again (faultOf b (sheetRecord b bs .body))
+    ∙ ap (λ (k : ℕ). cond (recordCut bs) 12 (cond (wrongTag b) 10 (cond (ltb 255 (sizeIn bs)) 13 (cond again 7 k)))) (sym (kind-fault b (sheetRecord b bs .body)))
+
+module _ (met : Bool) (b : ℕ) (bs : List ℕ) where
+  pub met-12 : recordCut bs ≡ true → 12 ≡ metBroken met b bs
+  met-12 h = rw h
 
   module _ (h : recordCut bs ≡ false) where
-    pub first-10 : wrongTag b ≡ true → firstBroken (rulesFor again b bs) ≡ 10
-    first-10 t = rw (h, t)
+    pub met-tag : (n : ℕ) → n ≡ sizeIn bs → met ≡ true → tagBroken b n ≡ metBroken met b bs
+    met-tag n e t = rw (h, t) (ap (tagBroken b) e)
 
-    module _ (t : wrongTag b ≡ false) where
-      pub first-13 : ltb 255 (sizeIn bs) ≡ true → firstBroken (rulesFor again b bs) ≡ 13
-      first-13 l = rw (h, t, l)
+    pub met-13 : met ≡ false → ltb 255 (sizeIn bs) ≡ true → 13 ≡ metBroken met b bs
+    met-13 t l = rw (h, t, l)
 
-      module _ (l : ltb 255 (sizeIn bs) ≡ false) where
-        pub first-7 : again ≡ true → firstBroken (rulesFor again b bs) ≡ 7
-        first-7 a = rw (h, t, l, a)
-
-        pub first-kind : again ≡ false → firstBroken (rulesFor again b bs) ≡ faultOf b (sheetRecord b bs .body)
-        first-kind a = rw (h, t, l, a) (kind-fault b (sheetRecord b bs .body))
+    pub met-kind : met ≡ false → ltb 255 (sizeIn bs) ≡ false → faultOf b (sheetRecord b bs .body) ≡ metBroken met b bs
+    met-kind t l = rw (h, t, l)
 
 -- the bytes after a tag
 module _ (s : List ℕ) (at : ℕ) where
@@ -107,6 +117,9 @@ module _ (s : List ℕ) (at : ℕ) where
 
     pub size-is : sizeIn (drop (suc at) s) ≡ n
     size-is = ap sizeIn cut3
+
+    pub sized : {k : ℕ} → k ≡ n → k ≡ sizeIn (drop (suc at) s)
+    sized e = e ∙ sym size-is
 
     pub cut-no : n ≤ length s - (at + 3) → recordCut (drop (suc at) s) ≡ false
     cut-no l = cut-is ∙ le-ltb _ _ l

@@ -8,6 +8,7 @@ use lib.Dec.{eqb, ltb}
 use Rattle.options.specs.Reading.{either}
 use Rattle.options.specs.Kinds.{kinds}
 use Rattle.options.specs.Writing.{Sheet, sound, faulty, Rule, recordCut, wrongTag, sizeIn, sheetRecord, breaksKind, brokenBy, sheet, threeBeforeOne, placeOf3}
+use Rattle.kinds.specs.Numbers.{faultOf}
 use Rattle.sheet.specs.declared.Judged.{Judged}
 use Rattle.sheet.specs.declared.Tags.{Tags}
 
@@ -36,6 +37,16 @@ rulesFor again b bs =
     ∷ record { breaks = again; gives = 7 }
     ∷ record { breaks = breaksKind kinds b (sheetRecord b bs .body); gives = brokenBy (kinds .value b (sheetRecord b bs .body)) }
     ∷ []
+
+-- the first that is broken by a tag that may not stand, or was met before
+abbrev pub tagBroken : ℕ → ℕ → ℕ
+tagBroken b n = cond (wrongTag b) 10 (cond (ltb 255 n) 13 7)
+
+-- the same of a record, where `met` says that its tag is such a one
+abbrev pub metBroken : Bool → ℕ → List ℕ → ℕ
+metBroken met b bs =
+    cond (recordCut bs) 12
+    (cond met (tagBroken b (sizeIn bs)) (cond (ltb 255 (sizeIn bs)) 13 (faultOf b (sheetRecord b bs .body))))
 
 -- the place of a tag 3 that no tag 1 stands before, counted from 1 (0: none), after a record with tag c at a place so counted
 abbrev pub threeAfter : ℕ → Bool → ℕ → ℕ → ℕ

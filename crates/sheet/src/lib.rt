@@ -2,7 +2,7 @@
 ghost use mathlib.Core.Path.{_≡_};
 ghost use Prim.Native.Nat.{suc, _<_, _/_};
 ghost use lib.ListN.{length, drop, getD};
-ghost use Rattle.sheet.specs.Judge.{judgeOf, firstBroken, rulesFor, threeAfter, oneAfter, tagsAfter, orderOf};
+ghost use Rattle.sheet.specs.Judge.{judgeOf, tagBroken, metBroken, threeAfter, oneAfter, tagsAfter, orderOf};
 
 // Number and place of a sheet's refusal; 0, 0 and the number of records where there is none.
 pub struct Judged {
@@ -17,6 +17,9 @@ pub struct Tags {
     pub one: bool,
 }
 
+// The tags that may not stand in a sheet, 0, 52 and 255, as a set: the set of the tags met begins with them, so that one test finds both.
+const NO_TAGS: [u64; 4] = [4503599627370497, 0, 0, 9223372036854775808];
+
 fn wide(x: u8) -> usize
     ensures { λ r. ⌜ (r ≡ x) × (r < 256) ⌝ }
 {
@@ -30,20 +33,10 @@ fn word(c: u8) -> usize
     (c / 64) as usize
 }
 
-// The number of the first rule that the record at a place breaks, or 0; `again`: its tag was met before.
-fn broken_rule(s: &[u8], at: usize, again: bool) -> u32
-    requires { ⌜ at < length (now s) ⌝ }
-    ensures { λ r. ⌜ r ≡ firstBroken (rulesFor again (getD (now (s .entry)) at 0) (drop (suc at) (now (s .entry)))) ⌝ }
+// The number of the first rule that a record breaks whose tag is in the set: it may not stand in a sheet, or was met before. n: the size of its data.
+fn tag_fault(tag: u8, n: usize) -> u32
+    ensures { λ r. ⌜ r ≡ tagBroken tag n ⌝ }
 {
-    let left = s.len() - at;
-    if left < 3 {
-        return 12;
-    }
-    let n = 256 * wide(s[at + 1]) + wide(s[at + 2]);
-    if left - 3 < n {
-        return 12;
-    }
-    let tag = s[at];
     if tag == 0 {
         return 10;
     }
@@ -56,8 +49,28 @@ fn broken_rule(s: &[u8], at: usize, again: bool) -> u32
     if 255 < n {
         return 13;
     }
-    if again {
-        return 7;
+    7
+}
+
+// The number of the first rule that the record at a place breaks, or 0; `met`: its tag is in the set.
+fn broken_rule(s: &[u8], at: usize, met: bool) -> u32
+    requires { ⌜ at < length (now s) ⌝ }
+    ensures { λ r. ⌜ r ≡ metBroken met (getD (now (s .entry)) at 0) (drop (suc at) (now (s .entry))) ⌝ }
+{
+    let left = s.len() - at;
+    if left < 3 {
+        return 12;
+    }
+    let n = 256 * wide(s[at + 1]) + wide(s[at + 2]);
+    if left - 3 < n {
+        return 12;
+    }
+    let tag = s[at];
+    if met {
+        return tag_fault(tag, n);
+    }
+    if 255 < n {
+        return 13;
     }
     kinds::fault(tag, &s[at + 3..at + 3 + n]) as u32
 }
@@ -126,7 +139,7 @@ fn order(three: usize, one: bool, records: usize) -> Judged
 pub fn judge(s: &[u8]) -> Judged
     ensures { λ r. ⌜ r ≡ judgeOf (now (s .entry)) ⌝ }
 {
-    let mut seen = [0u64; 4];
+    let mut seen = NO_TAGS;
     let mut three: usize = 0;
     let mut one = false;
     let mut records: usize = 0;

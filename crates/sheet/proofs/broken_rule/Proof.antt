@@ -1,13 +1,13 @@
 -- `sheet::broken_rule` meets its contract: the tests stand in the order of the rules. Assumes nothing.
 use borrow.Author.Needs.{needs}
-use mathlib.Core.Path.{_≡_, sym, ap, _∙_}
+use mathlib.Core.Path.{_≡_, ap, _∙_}
 use mathlib.Core.Bool.{false}
 use Prim.Native.Nat.{suc, _+_, _*_, _≤_}
 use native.Mathlib.Omega.{arith}
 use lib.ListN.{length, getD, drop}
 use Rattle.options.specs.Writing.{recordCut}
 use Rattle.kinds.specs.Numbers.{faultOf}
-use Rattle.sheet.proofs.Rules.{first-12, first-10, first-13, first-7, first-kind, short, cut-no, cut-yes, over-no, over-yes, body-is, tag-right, tag-0, tag-52, tag-255}
+use Rattle.sheet.proofs.Rules.{met-12, met-tag, met-13, met-kind, short, cut-no, cut-yes, over-no, over-yes, sized, body-is}
 use Rattle.sheet.proofs.broken_rule.Statement.{statement}
 use Rattle.sheet.proofs.broken_rule.Tie as tie
 
@@ -26,7 +26,7 @@ returns : tie.Need-returns
 returns c =
     let a = c .before .before .args in
     let s = a .s .now in
-    sym (first-12 (a .again) (getD s (a .at) 0) (drop (suc (a .at)) s) (short s (a .at) (omega arith)))
+    met-12 (a .met) (getD s (a .at) 0) (drop (suc (a .at)) s) (short s (a .at) (omega arith))
 
 add-wide : tie.Need-add-wide
 add-wide c = search needs
@@ -56,42 +56,27 @@ returns-2 : tie.Need-returns-2
 returns-2 c =
     let a = c .before .before .before .before .before .before .before .args in
     let s = a .s .now in
-    sym (first-12 (a .again) (getD s (a .at) 0) (drop (suc (a .at)) s) (cut-yes s (a .at) (three (c .before .before .before .before .before)) (omega arith)))
+    met-12 (a .met) (getD s (a .at) 0) (drop (suc (a .at)) s) (cut-yes s (a .at) (three (c .before .before .before .before .before)) (omega arith))
 
 shared-slice-read-tag : tie.Need-shared-slice-read-tag
 shared-slice-read-tag c = search needs
 
+tag-fault-requires : tie.Need-tag-fault-requires
+tag-fault-requires c κs = search needs
+
 returns-3 : tie.Need-returns-3
 returns-3 c =
-    let a = c .before .before .before .before .before .before .before .before .before .args in
+    let a = c .before .before .before .before .before .before .before .before .before .before .args in
     let s = a .s .now in
-    sym (first-10 (a .again) (getD s (a .at) 0) (drop (suc (a .at)) s) (uncut (c .before .before)) (tag-0 _ (c .if3 .taken)))
+    let t = three (c .before .before .before .before .before .before .before .before) in
+    c .tag-fault .ensures
+    ∙ met-tag (a .met) (getD s (a .at) 0) (drop (suc (a .at)) s) (uncut (c .before .before .before)) (256 * c .before .before .before .before .before .before .wide .result + c .before .before .before .before .wide2 .result) (sized s (a .at) t (omega arith)) (c .before .if3 .taken)
 
 returns-4 : tie.Need-returns-4
 returns-4 c =
     let a = c .before .before .before .before .before .before .before .before .before .before .args in
     let s = a .s .now in
-    sym (first-10 (a .again) (getD s (a .at) 0) (drop (suc (a .at)) s) (uncut (c .before .before .before)) (tag-52 _ (c .before .if3 .left) (c .if4 .taken)))
-
-returns-5 : tie.Need-returns-5
-returns-5 c =
-    let a = c .before .before .before .before .before .before .before .before .before .before .before .args in
-    let s = a .s .now in
-    sym (first-10 (a .again) (getD s (a .at) 0) (drop (suc (a .at)) s) (uncut (c .before .before .before .before)) (tag-255 _ (c .before .before .if3 .left) (c .before .if4 .left) (c .if5 .taken)))
-
-returns-6 : tie.Need-returns-6
-returns-6 c =
-    let a = c .before .before .before .before .before .before .before .before .before .before .before .before .args in
-    let s = a .s .now in
-    sym (first-13 (a .again) (getD s (a .at) 0) (drop (suc (a .at)) s) (uncut (c .before .before .before .before .before)) (tag-right _ (c .before .before .before .if3 .left) (c .before .before .if4 .left) (c .before .if5 .left))
-    (over-yes s (a .at) (three (c .before .before .before .before .before .before .before .before .before .before)) (omega arith)))
-
-returns-7 : tie.Need-returns-7
-returns-7 c =
-    let a = c .before .before .before .before .before .before .before .before .before .before .before .before .before .args in
-    let s = a .s .now in
-    sym (first-7 (a .again) (getD s (a .at) 0) (drop (suc (a .at)) s) (uncut (c .before .before .before .before .before .before)) (tag-right _ (c .before .before .before .before .if3 .left) (c .before .before .before .if4 .left) (c .before .before .if5 .left))
-    (over-no s (a .at) (three (c .before .before .before .before .before .before .before .before .before .before .before)) (omega arith)) (c .if7 .taken))
+    met-13 (a .met) (getD s (a .at) 0) (drop (suc (a .at)) s) (uncut (c .before .before .before)) (c .before .if3 .left) (over-yes s (a .at) (three (c .before .before .before .before .before .before .before .before)) (omega arith))
 
 add-fault : tie.Need-add-fault
 add-fault c = search needs
@@ -117,15 +102,14 @@ fault-requires c κs = search needs
 cast-result : tie.Need-cast-result
 cast-result c = search needs
 
-returns-8 : tie.Need-returns-8
-returns-8 c =
-    let a = c .before .before .before .before .before .before .before .before .before .before .before .before .before .before .before .args in
+returns-5 : tie.Need-returns-5
+returns-5 c =
+    let a = c .before .before .before .before .before .before .before .before .before .before .before .before .args in
     let s = a .s .now in
-    let t = three (c .before .before .before .before .before .before .before .before .before .before .before .before .before) in
+    let t = three (c .before .before .before .before .before .before .before .before .before .before) in
     c .fault .ensures
-    ∙ ap (faultOf (getD s (a .at) 0)) (body-is s (a .at) t (getD s (a .at) 0) (256 * c .before .before .before .before .before .before .before .before .before .before .before .wide .result + c .before .before .before .before .before .before .before .before .before .wide2 .result) (omega arith))
-    ∙ sym (first-kind (a .again) (getD s (a .at) 0) (drop (suc (a .at)) s) (uncut (c .before .before .before .before .before .before .before .before)) (tag-right _ (c .before .before .before .before .before .before .if3 .left) (c .before .before .before .before .before .if4 .left) (c .before .before .before .before .if5 .left))
-    (over-no s (a .at) t (omega arith)) (c .before .before .if7 .left))
+    ∙ ap (faultOf (getD s (a .at) 0)) (body-is s (a .at) t (getD s (a .at) 0) (256 * c .before .before .before .before .before .before .before .before .wide .result + c .before .before .before .before .before .before .wide2 .result) (omega arith))
+    ∙ met-kind (a .met) (getD s (a .at) 0) (drop (suc (a .at)) s) (uncut (c .before .before .before .before .before)) (c .before .before .before .if3 .left) (over-no s (a .at) t (omega arith))
 
 pub broken-rule-spec : {M : Type 1} → statement M
 broken-rule-spec =
@@ -143,11 +127,9 @@ broken-rule-spec =
     add-n
     returns-2
     shared-slice-read-tag
+    tag-fault-requires
     returns-3
     returns-4
-    returns-5
-    returns-6
-    returns-7
     add-fault
     add-fault-2
     add-fault-3
@@ -156,4 +138,4 @@ broken-rule-spec =
     part-fault-end
     fault-requires
     cast-result
-    returns-8)
+    returns-5)

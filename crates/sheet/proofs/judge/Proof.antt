@@ -7,7 +7,7 @@ use lib.Bits.{bitOr}
 use lib.Dec.{eqb}
 use lib.ListN.{length, getD, drop}
 use Rattle.codeset.proofs.Words.{one-shl}
-use Rattle.sheet.specs.Judge.{firstBroken, rulesFor}
+use Rattle.sheet.specs.Judge.{metBroken}
 use Rattle.sheet.specs.declared.Tags.{Tags}
 use Rattle.sheet.proofs.Judging.{Judging, refuses, within, moves, begins, ends}
 use Rattle.sheet.proofs.judge.Statement.{statement}
@@ -30,7 +30,7 @@ found : (c : Tested) →
     let s = c .before .before .before .before .before .before .args .s .now in
     let w = c .before .before .before .before .loop .seen in
     let at = c .before .before .before .before .loop .at in
-    c .broken-rule .result ≡ firstBroken (rulesFor (eqb (bitOr (getD w (getD s at 0 / 64) 0) (2 ^ (getD s at 0 % 64))) (getD w (getD s at 0 / 64) 0)) (getD s at 0) (drop (suc at) s))
+    c .broken-rule .result ≡ metBroken (eqb (bitOr (getD w (getD s at 0 / 64) 0) (2 ^ (getD s at 0 % 64))) (getD w (getD s at 0 / 64) 0)) (getD s at 0) (drop (suc at) s)
 found c =
     let s = c .before .before .before .before .before .before .args .s .now in
     let at = c .before .before .before .before .loop .at in

@@ -8,6 +8,7 @@ use native.Mathlib.Omega.{arith}
 use borrow.Author.Tests.{ne-eqb}
 use lib.Dec.{eqb}
 use lib.ListN.{length}
+use Rattle.options.specs.Writing.{isBroken}
 use Rattle.options.specs.Kinds.{Kind, address, addresses, pairs, flag, octet, number16, numbers16, unsigned32, signed32, text, opaque, Value, broken, number, part, kindOf, lengthFits, valueFits, meaning, judged, kinds}
 use Rattle.kinds.specs.Numbers.{numberOf, kindNumber, kindAt, numberOfFault, faultOf}
 
@@ -74,20 +75,28 @@ else-free n c d h =
     rw (ne-eqb n 3 (h .0 .0 .0 .0 .1), ne-eqb n 4 (h .0 .0 .0 .1), ne-eqb n 5 (h .0 .0 .1), ne-eqb n 6 (h .0 .1), ne-eqb n 7 (h .1))
     (free c d (eqb n 1) (eqb n 2) (eqb n 8) (eqb n 9) (eqb n 10))
 
--- what a kind makes of data that keeps its rules is no fault
-pub meant : (k : Kind) (d : List ℕ) → numberOfFault (meaning k d) ≡ 0
+-- what a kind makes of data that keeps its rules is not broken, and so no fault
+pub unbroken : (k : Kind) (d : List ℕ) → isBroken (meaning k d) ≡ false
 unfolding meaning
-meant address d = refl
-meant addresses d = refl
-meant pairs d = refl
-meant flag d = refl
-meant octet d = refl
-meant number16 d = refl
-meant numbers16 d = refl
-meant unsigned32 d = refl
-meant signed32 d = refl
-meant text d = refl
-meant opaque d = refl
+unbroken address d = refl
+unbroken addresses d = refl
+unbroken pairs d = refl
+unbroken flag d = refl
+unbroken octet d = refl
+unbroken number16 d = refl
+unbroken numbers16 d = refl
+unbroken unsigned32 d = refl
+unbroken signed32 d = refl
+unbroken text d = refl
+unbroken opaque d = refl
+
+no-fault : (v : Value) → isBroken v ≡ false → numberOfFault v ≡ 0
+no-fault (broken n) e = absurd (let z : _≡_ {A = ℕ} 0 1 = cc in omega arith)
+no-fault (number k z) e = refl
+no-fault (part k n) e = refl
+
+pub meant : (k : Kind) (d : List ℕ) → numberOfFault (meaning k d) ≡ 0
+meant k d = no-fault (meaning k d) (unbroken k d)
 
 -- ---- What a fault's number says of the data, for callers
 

@@ -10,9 +10,10 @@ use lib.ListN.{length, take, drop, getD, length-drop}
 use lib.Seq.{drop-cons, length-take-le}
 use lib.Dec.{ltb}
 use borrow.Author.Tests.{lt-ltb, le-ltb, eq-eqb, ne-eqb}
-use Rattle.options.specs.Kinds.{Kind, address, addresses, pairs, flag, octet, number16, numbers16, unsigned32, signed32, text, opaque, Value, broken, number, part, kindOf, hasRow, judgedBy, judged, meaning, lengthFits, valueFits, kinds}
+use Rattle.options.specs.Kinds.{Kind, Value, broken, number, part, kindOf, hasRow, judgedBy, judged, meaning, lengthFits, valueFits, kinds}
 use Rattle.options.specs.Reading.{either}
 use Rattle.options.specs.Writing.{Sheet, faulty, Rule, recordCut, wrongTag, sizeIn, sheetRecord, isBroken, brokenBy, breaksKind, tested, sheetFrom}
+use Rattle.kinds.proofs.Numbering.{unbroken}
 use Rattle.kinds.specs.Numbers.{numberOfFault, faultOf}
 use Rattle.sheet.specs.Judge.{firstBroken, rulesFor, tagBroken, metBroken}
 
@@ -36,21 +37,6 @@ kind-fault : (c : ℕ) (d : List ℕ) → cond (breaksKind kinds c d) (brokenBy 
 unfolding faultOf
 kind-fault c d = by-kind (kindOf c) c d
 
--- what a kind makes of data that keeps its rules is not broken
-meant : (k : Kind) (d : List ℕ) → isBroken (meaning k d) ≡ false
-unfolding meaning
-meant address d = refl
-meant addresses d = refl
-meant pairs d = refl
-meant flag d = refl
-meant octet d = refl
-meant number16 d = refl
-meant numbers16 d = refl
-meant unsigned32 d = refl
-meant signed32 d = refl
-meant text d = refl
-meant opaque d = refl
-
 -- no fault of a kind has number 0
 kind-sure : (o : Option Kind) (c : ℕ) (d : List ℕ) → cond (hasRow o) (isBroken (judgedBy o c d)) false ≡ true → brokenBy (judgedBy o c d) ≡ 0 → ⊥
 unfolding judged
@@ -58,7 +44,7 @@ kind-sure none c d q e = clash (cc)
 kind-sure (some k) c d q e = two (lengthFits k c (length d)) (valueFits k c d) q e
   where
     two : (a b : Bool) → isBroken (cond a (cond b (meaning k d) (broken 9)) (broken 8)) ≡ true → brokenBy (cond a (cond b (meaning k d) (broken 9)) (broken 8)) ≡ 0 → ⊥
-    two true true z y = clash (let x : isBroken (meaning k d) ≡ false = meant k d in cc)
+    two true true z y = clash (let x : isBroken (meaning k d) ≡ false = unbroken k d in cc)
     two true false z y = omega arith
     two false b z y = omega arith
 

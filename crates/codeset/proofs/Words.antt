@@ -13,7 +13,7 @@ use lib.Bits.{bitOr, or-step, or-zero-r}
 use lib.Count.{ones, ones-step, trailingZeros}
 use lib.ListN.{length, getD, set, drop, drop-of-length-le}
 use native.Mathlib.Numerals.{add-one}
-use lib.Seq.{drop-cons, getD-set-same, getD-set-other}
+use lib.Seq.{drop-cons, getD-set-same, getD-set-other, set-getD, set-set, set-comm}
 use borrow.Author.Tests.{eq-eqb, ne-eqb, eqb-true, eqb-false}
 use Rattle.options.specs.CodeSet.{bit, marked, withMark, countOf, lowestOf}
 
@@ -68,6 +68,25 @@ or-ones a (suc k) h =
     let low : bitOr a (2 ^ suc k) % 2 ≡ a % 2 = rw or-suc (omega arith) in
     let e : ones (bitOr a (2 ^ suc k)) ≡ bitOr a (2 ^ suc k) % 2 + ones (bitOr (a / 2) (2 ^ k)) = ones-step (bitOr a (2 ^ suc k)) ∙ rw half-suc in
     omega (arith, ones-step a, or-ones (a / 2) k (sym (bit-suc a k) ∙ h))
+
+-- a digit that was not set adds its weight
+pub or-plus : (a k : ℕ) → bit a k ≡ 0 → bitOr a (2 ^ k) ≡ a + 2 ^ k
+or-plus a zero h = rw or-zero (omega arith)
+or-plus a (suc k) h = let e : bitOr (a / 2) (2 ^ k) ≡ a / 2 + 2 ^ k = or-plus (a / 2) k (sym (bit-suc a k) ∙ h) in rw (or-suc, e, pow-suc 2 k) (omega arith)
+
+-- two digits may be set in either order
+or-swap : (a j k : ℕ) → bitOr (bitOr a (2 ^ j)) (2 ^ k) ≡ bitOr (bitOr a (2 ^ k)) (2 ^ j)
+or-swap a zero zero = refl
+or-swap a zero (suc k) =
+    let low : bitOr a 1 % 2 ≡ 1 = rw or-zero (omega arith) in
+    or-suc (bitOr a 1) k ∙ rw (half-zero a, low) (sym (or-zero (bitOr a (2 ^ suc k)) ∙ rw (half-suc a k) refl))
+or-swap a (suc j) zero =
+    let low : bitOr a 1 % 2 ≡ 1 = rw or-zero (omega arith) in
+    or-zero (bitOr a (2 ^ suc j)) ∙ rw (half-suc a j) (sym (or-suc (bitOr a 1) j ∙ rw (half-zero a, low) refl))
+or-swap a (suc j) (suc k) =
+    let low : (i : ℕ) → bitOr a (2 ^ suc i) % 2 ≡ a % 2 = λ i. rw or-suc (omega arith) in
+    or-suc (bitOr a (2 ^ suc j)) k
+    ∙ rw (half-suc a j, low j, or-swap (a / 2) j k) (sym (or-suc (bitOr a (2 ^ suc k)) j ∙ rw (half-suc a k, low k) refl))
 
 -- a digit that is set already
 pub or-already : (a k : ℕ) → bit a k ≡ 1 → bitOr a (2 ^ k) ≡ a
@@ -130,6 +149,38 @@ module _ (w : List ℕ) (c : ℕ) where
       by : Dec (d / 64 ≡ c / 64) → marked (withMark w c) d ≡ marked w d
       by (yes e) = rw (e, getD-set-same w (c / 64) _ 0 h, or-other (getD w (c / 64) 0) (c % 64) (d % 64) (omega arith))
       by (no e) = rw (getD-set-other w (c / 64) (d / 64) _ 0 e)
+
+  pub mark-there : marked w c ≡ true → withMark w c ≡ w
+  mark-there e =
+      let x : ℕ = getD w (c / 64) 0 in
+      ap (set w (c / 64)) (or-already x (c % 64) (eqb-true (bit x (c % 64)) 1 e)) ∙ set-getD w (c / 64) 0
+
+  -- taken out again
+  pub mark-clear : c / 64 < length w → marked w c ≡ false → set (withMark w c) (c / 64) (getD (withMark w c) (c / 64) 0 - 2 ^ (c % 64)) ≡ w
+  mark-clear h e =
+      let x : ℕ = getD w (c / 64) 0 in
+      let z : bit x (c % 64) ≡ 0 = omega (arith, eqb-false (bit x (c % 64)) 1 e) in
+      let y : x + 2 ^ (c % 64) - 2 ^ (c % 64) ≡ x = omega arith in
+      set-set w (c / 64) _ _ ∙ rw (getD-set-same w (c / 64) (bitOr x (2 ^ (c % 64))) 0 h, or-plus x (c % 64) z, y) (set-getD w (c / 64) 0)
+
+  pub mark-least : c / 64 < length w → marked w c ≡ false → 2 ^ (c % 64) ≤ getD (withMark w c) (c / 64) 0
+  mark-least h e =
+      let x : ℕ = getD w (c / 64) 0 in
+      let z : bit x (c % 64) ≡ 0 = omega (arith, eqb-false (bit x (c % 64)) 1 e) in
+      rw (getD-set-same w (c / 64) (bitOr x (2 ^ (c % 64))) 0 h, or-plus x (c % 64) z) (omega arith)
+
+  pub mark-swap : (d : ℕ) → c / 64 < length w → d / 64 < length w → withMark (withMark w c) d ≡ withMark (withMark w d) c
+  mark-swap d h k = by (decEq (c / 64) (d / 64))
+    where
+      by : Dec (c / 64 ≡ d / 64) → withMark (withMark w c) d ≡ withMark (withMark w d) c
+      by (yes e) =
+          let x : ℕ = getD w (d / 64) 0 in
+          rw e
+          (set-set w (d / 64) _ _ ∙ rw (getD-set-same w (d / 64) (bitOr x (2 ^ (c % 64))) 0 k, or-swap x (c % 64) (d % 64))
+          (sym (set-set w (d / 64) _ _ ∙ rw (getD-set-same w (d / 64) (bitOr x (2 ^ (d % 64))) 0 k) refl)))
+      by (no e) =
+          rw (getD-set-other w (c / 64) (d / 64) (bitOr (getD w (c / 64) 0) (2 ^ (c % 64))) 0 (λ q. e (sym q)), getD-set-other w (d / 64) (c / 64) (bitOr (getD w (d / 64) 0) (2 ^ (d % 64))) 0 e)
+          (set-comm w (c / 64) (d / 64) _ _ e)
 
 ones-set : (w : List ℕ) (k v : ℕ) → k < length w → ones v ≡ suc (ones (getD w k 0)) → countOf (set w k v) ≡ suc (countOf w)
 unfolding countOf

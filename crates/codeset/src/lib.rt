@@ -1,14 +1,41 @@
 // A set of option codes as four words: code c stands at bit c mod 64 of word c div 64 (document 01, What is asked of a message).
 ghost use mathlib.Core.Path.{_≡_};
-ghost use Rattle.options.specs.CodeSet.{marked, countOf, lowestOf};
+ghost use Prim.Native.Nat.{_/_, _<_};
+ghost use lib.ListN.{length};
+ghost use Rattle.options.specs.CodeSet.{marked, withMark, countOf, lowestOf};
+
+// The word of a code.
+fn word(c: u8) -> usize
+    ensures { λ r. ⌜ (r ≡ c / 64) × (r < 4) ⌝ }
+{
+    (c / 64) as usize
+}
+
+// Whether a code is in the set, which has four words.
+fn has(w: [u64; 4], c: u8) -> bool
+    ensures { λ r. ⌜ (r ≡ marked w c) × (length w ≡ 4) ⌝ }
+{
+    let k = (c / 64) as usize;
+    let x = w[k];
+    (x >> (c % 64)) % 2 == 1
+}
 
 // Whether a code is in the set.
 pub fn contains(w: [u64; 4], c: u8) -> bool
     ensures { λ r. ⌜ r ≡ marked w c ⌝ }
 {
-    let k = (c / 64) as usize;
-    let x = w[k];
-    (x >> (c % 64)) % 2 == 1
+    has(w, c)
+}
+
+// Puts a code into the set. Where it is there already nothing is stored, so that a test which follows need not wait for the store.
+pub fn mark(w: &mut [u64; 4], c: u8)
+    ensures { λ _. ⌜ (now (w .exit) ≡ withMark (now (w .entry)) c) × (length (now (w .entry)) ≡ 4) ⌝ }
+{
+    if has(*w, c) {
+        return;
+    }
+    let k = word(c);
+    w[k] = w[k] | (1u64 << (c % 64));
 }
 
 // How many codes are in the set.

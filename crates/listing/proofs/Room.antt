@@ -4,12 +4,12 @@ use mathlib.Core.Bool.{Bool, true, false, cond}
 use mathlib.Core.List.{List, [], _∷_, _++_}
 use Prim.Native.Nat.{ℕ, zero, suc, _+_, _-_, _*_, _≤_, _<_}
 use native.Mathlib.Omega.{arith}
-use lib.Dec.{eqb, ltb}
+use lib.Dec.{eqb}
 use lib.ListN.{length, take, drop, length-append, length-drop}
 use lib.Seq.{length-take-le}
 use borrow.Author.Tests.{ltb-false}
-use Rattle.options.specs.Message.{Field, options, file, sname, start, bytes, cookie, Opt}
-use Rattle.options.specs.Reading.{Parse, ended, beyond, found, span, cut, recordOf, itemOf, parse, accepted, refused, fileIn, snameIn, allFields, same, readMessage}
+use Rattle.options.specs.Message.{Field, options, file, sname, start, bytes}
+use Rattle.options.specs.Reading.{Parse, ended, beyond, found, span, cut, recordOf, itemOf, parse, fileIn, snameIn}
 use Rattle.options.specs.Answers.{lineOf, linesOf, acceptedLine, refusedLine}
 use Rattle.options.specs.KindClaims.{AllBytes}
 use Rattle.theorems.proofs.View.{clash}
@@ -69,18 +69,6 @@ only-short : (t : Bool) (fd : Field) (f : List ℕ) → length f ≤ 2048 → Al
 unfolding linesOf
 only-short true fd f h a = field-short fd f h a
 only-short false fd f h a = omega arith
-
--- "Lengths 240 to 1,472 are handled"
-pub accepted-lengths : (m : List ℕ) {os : List Opt} → readMessage m ≡ accepted os → (240 ≤ length m) × (length m ≤ 1472)
-unfolding readMessage
-accepted-lengths m {os} e = go (ltb (length m) 240) (ltb 1472 (length m)) refl refl e
-  where
-    go : (s l : Bool) → ltb (length m) 240 ≡ s → ltb 1472 (length m) ≡ l
-        → cond s (refused 1 (length m)) (cond l (refused 2 (length m)) (cond (same (take 4 (drop 236 m)) cookie) (allFields m) (refused 3 236))) ≡ accepted os
-        → (240 ≤ length m) × (length m ≤ 1472)
-    go true l s t z = clash (cc)
-    go false true s t z = clash (cc)
-    go false false s t z = (ltb-false (length m) 240 s, ltb-false 1472 (length m) t)
 
 pub accepted-short : (v n : ℕ) (m : List ℕ) → AllBytes m → 240 ≤ length m → length m ≤ 1472 → length (acceptedLine n ++ linesOf (activeOptions v m)) ≤ 16384
 accepted-short v n m b l u =

@@ -119,10 +119,10 @@ pub fn list(m: &[u8], out: &mut [u8; 16384]) -> usize
     ensures text { λ _. ⌜ now (out .exit) ≡ listing (now (m .entry)) ++ drop (length (listing (now (m .entry)))) (now (out .entry)) ⌝ }
 {
     // 0 is no code: none is looked for.
-    let w = message::scan(m, 0);
+    let mut seen = [0; 4];
+    let w = message::scan(m, 0, &mut seen);
     if w.number != 0 {
         return put_refusal(w.number, w.place, out);
     }
-    let seen = w.seen;
     put_options(m, seen, w.over, out)
 }

@@ -1,15 +1,14 @@
 -- The lookup's answer, case by case, as document 01's; and the answer for an option that a walk met. Assumes nothing.
-use mathlib.Core.Bool.{Bool, true, false, cond}
-use mathlib.Core.List.{List, []}
-use Prim.Native.Nat.{ℕ, _+_}
+use mathlib.Core.Path.{_≡_}
+use mathlib.Core.Bool.{Bool, cond}
+use mathlib.Core.List.{List}
+use Prim.Native.Nat.{ℕ, _+_, _-_, _≤_}
 use lib.Dec.{eqb}
-use lib.IntN.{ℤ, pos}
-use lib.ListN.{length, take, drop}
-use Rattle.options.specs.Message.{Field, options, file, sname, start, Opt, opt}
+use lib.IntN.{pos}
+use lib.ListN.{length, getD, take, drop}
 use Rattle.options.specs.Kinds.{address, addresses, pairs, flag, octet, number16, numbers16, unsigned32, signed32, text, opaque, meaning, kinds, Value, broken, number, part}
 use Rattle.options.specs.Answers as asked
 use Rattle.kinds.specs.Numbers.{kindAt}
-use Rattle.wire.specs.Walk.{Hit}
 use Rattle.lookup.specs.declared.Answer.{Answer}
 use Rattle.lookup.specs.declared.Answer.the-variants.{Absent, Unknown, Refused, Address, Addresses, Pairs, Flag, Octet, Number16, Numbers16, Unsigned32, Signed32, Text, Opaque}
 use Rattle.lookup.specs.declared.Extent.{Extent}
@@ -34,20 +33,29 @@ answerOf (Opaque s n) = asked.Part opaque s n
 abbrev pub extentOf : Extent → asked.Extent
 extentOf e = record { start = e .start; size = e .len }
 
--- ---- an option that a walk met
+-- ---- an option that a walk met: its data start at a place, just after their length byte; 0: not met
 
--- the field with a turn
-abbrev pub fieldAt : ℕ → Field
-fieldAt t = cond (eqb t 1) options (cond (eqb t 2) file sname)
+abbrev pub dataAt : List ℕ → ℕ → List ℕ
+dataAt m s = take (getD m (s - 1) 0) (drop s m)
 
-abbrev pub placeOf : Hit → ℕ
-placeOf h = start (fieldAt (h .field)) + h .offset
+-- where it was met its code byte and its data are within the message, which has at most 65,536 bytes
+abbrev pub Within : List ℕ → ℕ → Type 0
+Within m s = (s ≤ 65536) × ((s ≡ 0 → ⊥) → (2 ≤ s) × (s + getD m (s - 1) 0 ≤ length m))
 
--- the option, its data taken from the message
-abbrev pub optionAt : List ℕ → ℕ → Hit → Opt
-optionAt m c h = opt (fieldAt (h .field)) (h .offset) c (take (h .len) (drop (placeOf h + 2) m))
+-- what data of a kind mean, at s; their code byte stands two bytes before
+abbrev pub answerAt : ℕ → Value → asked.Answer
+answerAt s (broken n) = asked.Refused n (s - 2)
+answerAt s (number k z) = asked.Number k z
+answerAt s (part k n) = asked.Part k s n
 
--- what the data d of the kind numbered k means, at start
+-- what is answered for the code c with the data d, at s
+abbrev pub shownAt : (ℕ → Bool) → ℕ → ℕ → List ℕ → asked.Answer
+shownAt set c s d = cond (asked.isKnown kinds set c) (answerAt s (kinds .value c d)) (asked.Unknown s (length d))
+
+unfoldable pub foundIn : List ℕ → (ℕ → Bool) → ℕ → ℕ → asked.Answer
+foundIn m set c s = cond (eqb s 0) asked.Absent (shownAt set c s (dataAt m s))
+
+-- what the data d of the kind numbered k mean, at s
 abbrev pub meantAt : Value → ℕ → asked.Answer
 meantAt (broken n) s = asked.Absent
 meantAt (number k z) s = asked.Number k z
@@ -57,12 +65,8 @@ unfoldable pub valueOf : ℕ → List ℕ → ℕ → asked.Answer
 unfolding meaning
 valueOf k d s = meantAt (meaning (kindAt k) d) s
 
-unfoldable pub foundIn : List ℕ → (ℕ → Bool) → ℕ → Hit → asked.Answer
-unfolding asked.shown
-foundIn m set c h = cond (eqb (h .field) 0) asked.Absent (asked.shown kinds set (optionAt m c h))
-
 abbrev pub clipped : ℕ → ℕ → asked.Extent
 clipped s n = cond (eqb n 0) asked.noExtent (record { start = s; size = n })
 
-abbrev pub extentIn : Hit → asked.Extent
-extentIn h = cond (eqb (h .field) 0) asked.noExtent (clipped (placeOf h + 2) (h .len))
+abbrev pub extentIn : List ℕ → ℕ → asked.Extent
+extentIn m s = cond (eqb s 0) asked.noExtent (clipped s (getD m (s - 1) 0))

@@ -1,14 +1,12 @@
 // Look up a code, its data and its text (document 01, What is asked of a message).
 ghost use mathlib.Core.Path.{_≡_};
-ghost use mathlib.Core.List.{List};
-ghost use Prim.Native.Nat.{_≤_, _<_, _+_};
-ghost use lib.ListN.{length};
-ghost use Rattle.wire.specs.Walk.{walkedOf, hitOf};
+ghost use Prim.Native.Nat.{_≤_, _<_, _+_, _-_};
+ghost use lib.ListN.{length, getD};
 ghost use Rattle.message.specs.Scan.{scanOf};
-ghost use Rattle.options.specs.Kinds.{kinds, Table};
+ghost use Rattle.options.specs.Kinds.{kinds};
 ghost use Rattle.options.specs.CodeSet.{marked};
 ghost use Rattle.options.specs.Answers.{lookup, bytesOf, dataOf, textIn, textOf};
-ghost use Rattle.lookup.specs.Shown.{answerOf, valueOf, foundIn, extentOf, extentIn, clipped, placeOf};
+ghost use Rattle.lookup.specs.Shown.{answerOf, valueOf, Within, foundIn, extentOf, extentIn, clipped};
 use wire::Walked;
 
 // The answer to a lookup; a broken option is the lookup's refusal, with 8 or 9.
@@ -69,39 +67,29 @@ fn value(k: u8, d: &[u8], start: usize) -> Answer
     }
 }
 
-// The place of the code byte of an option that was met.
-fn place_of(w: Walked) -> usize
-    requires { ⌜ w .offset ≤ 65536 ⌝ }
-    ensures { λ r. ⌜ (r ≡ placeOf (hitOf w)) × (r ≤ 65776) ⌝ }
+fn wide(x: u8) -> usize
+    ensures { λ r. ⌜ (r ≡ x) × (r < 256) ⌝ }
 {
-    let f = w.field;
-    let i = w.offset;
-    if f == 1 {
-        return 240 + i;
-    }
-    if f == 2 {
-        return 108 + i;
-    }
-    44 + i
+    x as usize
 }
 
-fn wide(n: u32) -> usize
-    ensures { λ r. ⌜ (r ≡ n) × (r < 4294967296) ⌝ }
+// The length of data that start at a place: the byte before them.
+fn len_at(m: &[u8], start: usize) -> usize
+    requires { ⌜ (0 < start) × (start ≤ length (now m)) ⌝ }
+    ensures { λ r. ⌜ (r ≡ getD (now (m .entry)) (start - 1) 0) × (r < 256) ⌝ }
 {
-    n as usize
+    wide(m[start - 1])
 }
 
-// The answer for an option that was met, or not.
-fn found(m: &[u8], known: [u64; 4], code: u8, w: Walked) -> Answer
-    requires { ⌜ (w .offset ≤ 65536) × ((w .field ≡ 0 → ⊥) → placeOf (hitOf w) + 2 + w .len ≤ length (now m)) ⌝ }
-    ensures { λ r. ⌜ answerOf r ≡ foundIn (now (m .entry)) (marked known) code (hitOf w) ⌝ }
+// The answer for an option whose data start at a place, or that was not met (0).
+fn found(m: &[u8], known: [u64; 4], code: u8, start: usize) -> Answer
+    requires { ⌜ Within (now m) start ⌝ }
+    ensures { λ r. ⌜ answerOf r ≡ foundIn (now (m .entry)) (marked known) code start ⌝ }
 {
-    if w.field == 0 {
+    if start == 0 {
         return Answer::Absent;
     }
-    let place = place_of(w);
-    let start = place + 2;
-    let end = start + wide(w.len);
+    let end = start + len_at(m, start);
     let d = &m[start..end];
     let k = kinds::kind(code);
     if k == 0 {
@@ -120,7 +108,7 @@ fn found(m: &[u8], known: [u64; 4], code: u8, w: Walked) -> Answer
     if number != 0 {
         return Answer::Refused {
             number: number as u32,
-            place,
+            place: start - 2,
         };
     }
     value(k, d, start)
@@ -128,7 +116,7 @@ fn found(m: &[u8], known: [u64; 4], code: u8, w: Walked) -> Answer
 
 // The answer once the message was walked.
 fn answer_in(m: &[u8], known: [u64; 4], code: u8, w: Walked) -> Answer
-    requires { ⌜ (code ≡ 0 → ⊥) × (code ≡ 255 → ⊥) × (walkedOf w ≡ scanOf code (now m)) ⌝ }
+    requires { ⌜ (code ≡ 0 → ⊥) × (code ≡ 255 → ⊥) × (w ≡ scanOf code (now m)) ⌝ }
     ensures { λ r. ⌜ answerOf r ≡ lookup kinds (marked known) (now (m .entry)) code ⌝ }
 {
     if w.number != 0 {
@@ -137,10 +125,10 @@ fn answer_in(m: &[u8], known: [u64; 4], code: u8, w: Walked) -> Answer
             place: w.place,
         };
     }
-    found(m, known, code, w)
+    found(m, known, code, w.start)
 }
 
-// Looks up a code, given the set of known codes. One walk over the message; options apart, since most messages have no more.
+// Looks up a code, given the set of known codes. One walk over the message.
 pub fn lookup(m: &[u8], known: [u64; 4], code: u8) -> Answer
     ensures { λ r. ⌜ answerOf r ≡ lookup kinds (marked known) (now (m .entry)) code ⌝ }
 {
@@ -156,12 +144,7 @@ pub fn lookup(m: &[u8], known: [u64; 4], code: u8) -> Answer
             place: 0,
         };
     }
-    let a = message::first(m, code);
-    let v = a.over;
-    if v == 0 {
-        return answer_in(m, known, code, a);
-    }
-    answer_in(m, known, code, message::further(m, code, a))
+    answer_in(m, known, code, message::find(m, code))
 }
 
 // A part that begins at start: 0 and 0 when it is empty.
@@ -174,15 +157,15 @@ fn clip(start: usize, len: usize) -> Extent
     Extent { start, len }
 }
 
-// The data part of an option that was met, or not.
-fn data_in(w: Walked) -> Extent
-    requires { ⌜ w .offset ≤ 65536 ⌝ }
-    ensures { λ r. ⌜ extentOf r ≡ extentIn (hitOf w) ⌝ }
+// The data part of an option whose data start at a place, or that was not met (0).
+fn data_in(m: &[u8], start: usize) -> Extent
+    requires { ⌜ Within (now m) start ⌝ }
+    ensures { λ r. ⌜ extentOf r ≡ extentIn (now (m .entry)) start ⌝ }
 {
-    if w.field == 0 {
+    if start == 0 {
         return Extent { start: 0, len: 0 };
     }
-    clip(place_of(w) + 2, wide(w.len))
+    clip(start, len_at(m, start))
 }
 
 // Where all data bytes of a code stand, whether it is known or not, broken or not.
@@ -195,11 +178,8 @@ pub fn data_extent(m: &[u8], code: u8) -> Extent
     if code == 255 {
         return Extent { start: 0, len: 0 };
     }
-    let w = message::scan(m, code);
-    if w.number != 0 {
-        return Extent { start: 0, len: 0 };
-    }
-    data_in(w)
+    let w = message::find(m, code);
+    data_in(m, w.start)
 }
 
 // The data bytes of a code, as a part of the message; empty when the code is absent or the call is refused.
@@ -210,12 +190,12 @@ pub fn data(m: &[u8], code: u8) -> &[u8]
     message::part(m, e.start, e.len)
 }
 
-// The text part of an option that was met, or not. A text of length 0, which is refused, has an empty part as well.
-fn text_in(m: &[u8], set: [u64; 4], code: u8, w: Walked) -> Extent
-    requires { ⌜ (w .offset ≤ 65536) × ((w .field ≡ 0 → ⊥) → placeOf (hitOf w) + 2 + w .len ≤ length (now m)) ⌝ }
-    ensures { λ r. ⌜ extentOf r ≡ textIn (foundIn (now (m .entry)) (marked set) code (hitOf w)) ⌝ }
+// The text part of an option whose data start at a place, or that was not met (0). A text of length 0, which is refused, has an empty part as well.
+fn text_in(m: &[u8], set: [u64; 4], code: u8, start: usize) -> Extent
+    requires { ⌜ Within (now m) start ⌝ }
+    ensures { λ r. ⌜ extentOf r ≡ textIn (foundIn (now (m .entry)) (marked set) code start) ⌝ }
 {
-    if w.field == 0 {
+    if start == 0 {
         return Extent { start: 0, len: 0 };
     }
     if kinds::kind(code) != kinds::TEXT {
@@ -224,8 +204,7 @@ fn text_in(m: &[u8], set: [u64; 4], code: u8, w: Walked) -> Extent
     if !codeset::contains(set, code) {
         return Extent { start: 0, len: 0 };
     }
-    let start = place_of(w) + 2;
-    let end = start + wide(w.len);
+    let end = start + len_at(m, start);
     clip(start, kinds::text_len(&m[start..end]))
 }
 
@@ -239,11 +218,8 @@ pub fn text_extent(m: &[u8], known: [u64; 4], code: u8) -> Extent
     if code == 255 {
         return Extent { start: 0, len: 0 };
     }
-    let w = message::scan(m, code);
-    if w.number != 0 {
-        return Extent { start: 0, len: 0 };
-    }
-    text_in(m, known, code, w)
+    let w = message::find(m, code);
+    text_in(m, known, code, w.start)
 }
 
 // The text of a code, as a part of the message; empty unless the lookup answers text.

@@ -2,52 +2,82 @@
 use mathlib.Core.Path.{_≡_, refl, sym, ap, ap₂, _∙_, subst}
 use mathlib.Core.Bool.{Bool, true, false, cond, not}
 use mathlib.Core.List.{List, [], _∷_, _++_}
-use Prim.Native.Nat.{ℕ, zero, suc, _+_, _≤_, _<_}
+use Prim.Native.Nat.{ℕ, zero, suc, _+_, _/_, _≤_, _<_}
 use native.Mathlib.Omega.{arith}
 use lib.Dec.{eqb, ltb, leb}
-use lib.ListN.{length, getD, take, drop}
-use borrow.Author.Tests.{eq-eqb, ne-eqb, eqb-true, eqb-false, lt-ltb, le-ltb}
-use Rattle.options.specs.Message.{Field, options, file, sname, start, bytes, turn, cookie, Rec, Opt}
-use Rattle.options.specs.Reading.{Parse, ended, ranOut, beyond, found, span, cut, recordOf, itemOf, isOptions, parse, right52, wrong52, among, judge, more, Reading, accepted, refused, items, seenAfter, join, extend, overload, overloadOf, fileIn, snameIn, further, allFields, same, readMessage}
+use lib.ListN.{length, getD, drop, length-set}
+use borrow.Author.Tests.{eq-eqb, ne-eqb, eqb-true, eqb-false}
+use Rattle.options.specs.Message.{Field, options, file, sname, start, bytes, Rec, Opt, dataStart}
+use Rattle.options.specs.Reading.{Parse, ended, ranOut, beyond, found, span, cut, recordOf, itemOf, isOptions, parse, right52, wrong52, among, judge, more, Reading, accepted, refused, items, seenAfter, join, extend, overload, overloadOf, fileIn, snameIn, allFields}
 use Rattle.options.specs.KindClaims.{AllBytes}
 use Rattle.options.specs.CodeSet.{marked, withMark, noCodes}
+use Rattle.options.specs.Answers.{wordsOf}
 use Rattle.codeset.specs.Codes.{Marks}
 use Rattle.codeset.proofs.Codes.{marks-add, marks-none}
+use Rattle.codeset.proofs.Words.{mark-same, mark-other, mark-there, mark-swap}
 use Rattle.theorems.proofs.CodesPresent.{all-field}
-use Rattle.wire.specs.Walk.{noState, stopped, sizeOf, overWrong, overAfter, noted, walkOf, walkField, walkedOf}
+use Rattle.wire.specs.Walk.{withEnds, stop, sizeOf, startAfter, overWrong, overAfter, noted, walkOf, begin, walkField, walkedOf}
 use Rattle.wire.specs.Walk.{State}
-use Rattle.wire.specs.Walk.{Walked}
-use Rattle.wire.specs.Walk.{Closed, Fault}
+use Rattle.wire.specs.Walk.{Walk}
 use Rattle.wire.specs.declared.Walked as flat
-use Rattle.message.specs.Scan.{keptAll, usedBy, scanIn, scanOf, joined, walkIf, firstOf, walked, furtherOf, First, Further}
+use Rattle.message.specs.Scan.{Fields}
+use Rattle.message.specs.Scan.{usedBy, stopAt, joined, walkIf, lastField, furtherFields, fieldsOf}
+use Rattle.message.proofs.Laws.{later}
 
--- ---- codes are bytes
+-- ---- codes are bytes, and neither 0 nor 255
 
-abbrev Small : Parse → Type 0
-Small ended = Unit {0}
-Small (ranOut i) = Unit {0}
-Small (beyond i) = Unit {0}
-Small (found i x p) = (x .tag < 256) × Small p
+abbrev Codes : Parse → Type 0
+Codes ended = Unit {0}
+Codes (ranOut i) = Unit {0}
+Codes (beyond i) = Unit {0}
+Codes (found i x p) = (x .tag < 256) × (x .tag ≡ 0 → ⊥) × (x .tag ≡ 255 → ⊥) × Codes p
 
-small-step : (at b : ℕ) (bs : List ℕ) (p : Parse) → b < 256 → Small p → Small (itemOf at b bs p)
-small-step at b bs p h s = go (eqb b 0) (eqb b 255) (cut bs)
+codes-step : (at b : ℕ) (bs : List ℕ) (p : Parse) → b < 256 → Codes p → Codes (itemOf at b bs p)
+codes-step at b bs p h s = go (eqb b 0) refl (eqb b 255) refl (cut bs)
   where
-    go : (t u v : Bool) → Small (cond t p (cond u ended (cond v (beyond at) (found at (recordOf b bs) p))))
-    go true u v = s
-    go false true v = tt
-    go false false true = tt
-    go false false false = (h, s)
+    go : (t : Bool) → eqb b 0 ≡ t → (u : Bool) → eqb b 255 ≡ u → (v : Bool) → Codes (cond t p (cond u ended (cond v (beyond at) (found at (recordOf b bs) p))))
+    go true q u r v = s
+    go false q true r v = tt
+    go false q false r true = tt
+    go false q false r false = (h, eqb-false b 0 q, eqb-false b 255 r, s)
 
-parse-small : (at skip : ℕ) (xs : List ℕ) → AllBytes xs → Small (parse at skip xs)
+parse-codes : (at skip : ℕ) (xs : List ℕ) → AllBytes xs → Codes (parse at skip xs)
 unfolding parse
-parse-small at zero [] a = tt
-parse-small at zero (b ∷ bs) a = small-step at b bs (parse (at + 1) (span b bs) bs) (a .0) (parse-small (at + 1) (span b bs) bs (a .1))
-parse-small at (suc k) [] a = tt
-parse-small at (suc k) (b ∷ bs) a = parse-small (at + 1) k bs (a .1)
+parse-codes at zero [] a = tt
+parse-codes at zero (b ∷ bs) a = codes-step at b bs (parse (at + 1) (span b bs) bs) (a .0) (parse-codes (at + 1) (span b bs) bs (a .1))
+parse-codes at (suc k) [] a = tt
+parse-codes at (suc k) (b ∷ bs) a = parse-codes (at + 1) k bs (a .1)
 
 pub all-bytes : (xs : List ℕ) → ((i : ℕ) → getD xs i 0 < 256) → AllBytes xs
 all-bytes [] f = tt
 all-bytes (x ∷ xs) f = (f 0, all-bytes xs (λ i. f (suc i)))
+
+-- ---- the set in which 0 and 255 are marked
+
+module _ (v : List ℕ) (four : length v ≡ 4) where
+  in-four : (c : ℕ) → c < 256 → c / 64 < length v
+  in-four c h = omega arith
+
+  four-mark : (c : ℕ) → length (withMark v c) ≡ 4
+  four-mark c = length-set v (c / 64) _ ∙ four
+
+  pub ends-other : (c : ℕ) → (c ≡ 0 → ⊥) → (c ≡ 255 → ⊥) → marked (withEnds v) c ≡ marked v c
+  ends-other c z e =
+      mark-other (withMark v 0) 255 c (let k : length (withMark v 0) ≡ 4 = four-mark 0 in omega arith) e ∙ mark-other v 0 c (in-four 0 (omega arith)) z
+
+-- one more code
+ends-mark : (v : List ℕ) (c : ℕ) → length v ≡ 4 → c < 256 → withMark (withEnds v) c ≡ withEnds (withMark v c)
+ends-mark v c four h =
+    let k : length (withMark v 0) ≡ 4 = four-mark v four 0 in
+    mark-swap (withMark v 0) 255 c (omega arith) (omega arith)
+    ∙ ap (λ (w : List ℕ). withMark w 255) (mark-swap v 0 c (omega arith) (omega arith))
+
+ends-twice : (v : List ℕ) → length v ≡ 4 → withEnds (withEnds v) ≡ withEnds v
+ends-twice v four =
+    let k : length (withMark v 0) ≡ 4 = four-mark v four 0 in
+    let l : length (withEnds v) ≡ 4 = four-mark (withMark v 0) k 255 in
+    let a : marked (withEnds v) 0 ≡ true = mark-other (withMark v 0) 255 0 (omega arith) (omega arith) ∙ mark-same v 0 (omega arith) in
+    ap (λ (w : List ℕ). withMark w 255) (mark-there (withEnds v) 0 a) ∙ mark-there (withEnds v) 255 (mark-same (withMark v 0) 255 (omega arith))
 
 -- ---- option 52
 
@@ -55,10 +85,8 @@ all-bytes (x ∷ xs) f = (f 0, all-bytes xs (λ i. f (suc i)))
 abbrev overFrom : ℕ → List Rec → ℕ
 overFrom v rs = cond (eqb v 0) (overload rs) v
 
-wrong-is : (fd : Field) (x : Rec) → overWrong (turn fd) x ≡ wrong52 fd x
-wrong-is options x = refl
-wrong-is file x = refl
-wrong-is sname x = refl
+wrong-is : (fd : Field) (x : Rec) → overWrong (isOptions fd) x ≡ wrong52 fd x
+wrong-is fd x = refl
 
 -- an option 52 that is not refused has a value other than 0
 right-value : (d : List ℕ) → right52 d ≡ true → eqb (getD d 0 0) 0 ≡ false
@@ -94,17 +122,6 @@ over-step fd v x rs e = go (eqb (x .tag) 52) refl e
     go true q z = kept (eqb v 0) refl (value fd z)
     go false q z = refl
 
--- ---- one field
-
-pub record Takes (fd : Field) (want : ℕ) (s : State) (z : ℕ) (seen : List ℕ) (p : Parse) (os : List Opt) : Type 0 where
-  pub is : walkOf (start fd) (turn fd) want s z p ≡ record { state = keptAll want s os; used = z + usedBy (items os); end = Closed }
-  pub marks : Marks (keptAll want s os .seen) (seenAfter seen (items os))
-  pub over : keptAll want s os .over ≡ overFrom (s .over) (items os)
-
-abbrev pub Walked-as : Field → ℕ → State → ℕ → List ℕ → Parse → Reading → Type 0
-Walked-as fd want s z seen p (refused n q) = walkOf (start fd) (turn fd) want s z p ≡ stopped n q
-Walked-as fd want s z seen p (accepted os) = Takes fd want s z seen p os
-
 over-none : (v : ℕ) → v ≡ overFrom v []
 unfolding overload
 over-none v = go (eqb v 0) refl
@@ -113,52 +130,104 @@ over-none v = go (eqb v 0) refl
     go true e = eqb-true v 0 e
     go false e = refl
 
+-- ---- the wanted option: the last one that has its code
+
+unfoldable pub lastStart : ℕ → ℕ → List Opt → ℕ
+lastStart want d [] = d
+lastStart want d (o ∷ os) = lastStart want (cond (eqb want (o .item .tag)) (dataStart o) d) os
+
+-- an offset k in a field as a place in the message, where it is not 0
+abbrev placed : Field → ℕ → ℕ → ℕ
+placed fd d k = cond (eqb k 0) d (start fd + k)
+
+placed-step : (fd : Field) (d want c i k : ℕ) → placed fd d (startAfter want c (i + 2) k) ≡ cond (eqb want c) (start fd + i + 2) (placed fd d k)
+placed-step fd d want c i k = go (eqb want c)
+  where
+    go : (b : Bool) → placed fd d (cond b (i + 2) k) ≡ cond b (start fd + i + 2) (placed fd d k)
+    go true = let e : start fd + (i + 2) ≡ start fd + i + 2 = omega arith in rw (ne-eqb (i + 2) 0 (omega arith), e) refl
+    go false = refl
+
+-- ---- one field
+
+-- the options, in reading order, noted one after another
+unfoldable keptAll : ℕ → State → List Opt → State
+keptAll want s [] = s
+keptAll want s (o ∷ os) = keptAll want (noted want s (o .offset) (o .item)) os
+
+record Takes (fd : Field) (want : ℕ) (v : List ℕ) (s : State) (cs : List ℕ) (p : Parse) (os : List Opt) : Type 0 where
+  is : walkOf (isOptions fd) want s p ≡ stop (keptAll want s os) 0 0
+  seen : keptAll want s os .seen ≡ withEnds (wordsOf v (items os))
+  marks : Marks (wordsOf v (items os)) (seenAfter cs (items os))
+  used : keptAll want s os .used ≡ s .used + usedBy (items os)
+  over : keptAll want s os .over ≡ overFrom (s .over) (items os)
+  data-at : (d : ℕ) → placed fd d (keptAll want s os .start) ≡ lastStart want (placed fd d (s .start)) os
+
+record Stops (fd : Field) (w : Walk) (n q : ℕ) : Type 0 where
+  number : w .number ≡ n
+  place : start fd + w .place ≡ q
+  fault : n ≡ 0 → ⊥
+
+abbrev Walked-as : Field → ℕ → List ℕ → State → List ℕ → Parse → Reading → Type 0
+Walked-as fd want v s cs p (refused n q) = Stops fd (walkOf (isOptions fd) want s p) n q
+Walked-as fd want v s cs p (accepted os) = Takes fd want v s cs p os
+
 module _ (fd : Field) (want : ℕ) where
-  one-more : (s : State) (z : ℕ) (seen : List ℕ) (i : ℕ) (x : Rec) (p : Parse) (w : Reading) → wrong52 fd x ≡ false → marked (s .seen) (x .tag) ≡ false
-      → Walked-as fd want (noted (turn fd) want s i x) (z + sizeOf x) (x .tag ∷ seen) p w
-      → Walked-as fd want s z seen (found i x p) (more (record { field = fd; offset = i; item = x }) w)
-  unfolding walkOf keptAll usedBy items seenAfter
-  one-more s z seen i x p (refused n q) e m h = rw (wrong-is fd x, e, m) h
-  one-more s z seen i x p (accepted os) e m h =
+  one-more : (v : List ℕ) (s : State) (cs : List ℕ) (i : ℕ) (x : Rec) (p : Parse) (w : Reading) → wrong52 fd x ≡ false → marked (s .seen) (x .tag) ≡ false
+      → Walked-as fd want (withMark v (x .tag)) (noted want s i x) (x .tag ∷ cs) p w
+      → Walked-as fd want v s cs (found i x p) (more (record { field = fd; offset = i; item = x }) w)
+  unfolding walkOf keptAll usedBy items seenAfter wordsOf lastStart
+  one-more v s cs i x p (refused n q) e m h = rw (e, m) h
+  one-more v s cs i x p (accepted os) e m h =
       record {
-        is = rw (wrong-is fd x, e, m)
-            (h .is ∙ ap (λ (k : ℕ). record { state = keptAll want (noted (turn fd) want s i x) os; used = k; end = Closed })
-            (let r : z + sizeOf x + usedBy (items os) ≡ z + (sizeOf x + usedBy (items os)) = omega arith in r));
+        is = rw (e, m) (h .is);
+        seen = h .seen;
         marks = h .marks;
+        used = h .used ∙ (let r : s .used + sizeOf x + usedBy (items os) ≡ s .used + (sizeOf x + usedBy (items os)) = omega arith in r);
         over = h .over ∙ over-step fd (s .over) x (items os) e;
+        data-at = λ d. h .data-at d ∙ ap (λ (k : ℕ). lastStart want k os) (placed-step fd d want (x .tag) i (s .start));
       }
 
-  pub walk-judged : (s : State) (z : ℕ) (seen : List ℕ) (p : Parse) → Marks (s .seen) seen → Small p → Walked-as fd want s z seen p (judge fd seen p)
-  unfolding walkOf keptAll usedBy items seenAfter judge
-  walk-judged s z seen ended m b =
-      record { is = ap (λ (k : ℕ). record { state = s; used = k; end = Closed }) (let r : z ≡ z + 0 = omega arith in r); marks = m; over = over-none (s .over) }
-  walk-judged s z seen (ranOut i) m b = refl
-  walk-judged s z seen (beyond i) m b = refl
-  walk-judged s z seen (found i x p) m b =
+  walk-judged : (v : List ℕ) (s : State) (cs : List ℕ) (p : Parse) → s .seen ≡ withEnds v → Marks v cs → Codes p → Walked-as fd want v s cs p (judge fd cs p)
+  unfolding walkOf keptAll usedBy items seenAfter judge wordsOf lastStart
+  walk-judged v s cs ended e m b =
+      record {
+        is = refl;
+        seen = e;
+        marks = m;
+        used = let r : s .used ≡ s .used + 0 = omega arith in r;
+        over = over-none (s .over);
+        data-at = λ d. refl;
+      }
+  walk-judged v s cs (ranOut i) e m b = record { number = refl; place = refl; fault = λ z. omega arith }
+  walk-judged v s cs (beyond i) e m b = record { number = refl; place = refl; fault = λ z. omega arith }
+  walk-judged v s cs (found i x p) e m b =
       wrong (wrong52 fd x) refl
-      (λ n. walk-judged (noted (turn fd) want s i x) (z + sizeOf x) (x .tag ∷ seen) p (marks-add (s .seen) seen (x .tag) (b .0) n m) (b .1))
+      (λ n. walk-judged (withMark v (x .tag)) (noted want s i x) (x .tag ∷ cs) p (ap (λ (w : List ℕ). withMark w (x .tag)) e ∙ ends-mark v (x .tag) (m .four) (b .0)) (marks-add v cs (x .tag) (b .0) n m) (b .3))
     where
-      again : (t : Bool) → among (x .tag) seen ≡ t → wrong52 fd x ≡ false
-          → (t ≡ false → Walked-as fd want (noted (turn fd) want s i x) (z + sizeOf x) (x .tag ∷ seen) p (judge fd (x .tag ∷ seen) p))
-          → Walked-as fd want s z seen (found i x p) (cond t (refused 7 (start fd + i)) (more (record { field = fd; offset = i; item = x }) (judge fd (x .tag ∷ seen) p)))
-      again true e w ih = rw (wrong-is fd x, w, m .bits (x .tag) (b .0) ∙ e)
-      again false e w ih = one-more s z seen i x p (judge fd (x .tag ∷ seen) p) w (m .bits (x .tag) (b .0) ∙ e) (ih refl)
+      bit-is : marked (s .seen) (x .tag) ≡ among (x .tag) cs
+      bit-is = ap (λ (w : List ℕ). marked w (x .tag)) e ∙ ends-other v (m .four) (x .tag) (b .1) (b .2) ∙ m .bits (x .tag) (b .0)
+
+      again : (t : Bool) → among (x .tag) cs ≡ t → wrong52 fd x ≡ false
+          → (t ≡ false → Walked-as fd want (withMark v (x .tag)) (noted want s i x) (x .tag ∷ cs) p (judge fd (x .tag ∷ cs) p))
+          → Walked-as fd want v s cs (found i x p) (cond t (refused 7 (start fd + i)) (more (record { field = fd; offset = i; item = x }) (judge fd (x .tag ∷ cs) p)))
+      again true q w ih = rw (w, bit-is ∙ q) (record { number = refl; place = refl; fault = λ z. omega arith })
+      again false q w ih = one-more v s cs i x p (judge fd (x .tag ∷ cs) p) w (bit-is ∙ q) (ih refl)
 
       wrong : (t : Bool) → wrong52 fd x ≡ t
-          → (among (x .tag) seen ≡ false → Walked-as fd want (noted (turn fd) want s i x) (z + sizeOf x) (x .tag ∷ seen) p (judge fd (x .tag ∷ seen) p))
-          → Walked-as fd want s z seen (found i x p)
-          (cond t (refused 6 (start fd + i)) (cond (among (x .tag) seen) (refused 7 (start fd + i)) (more (record { field = fd; offset = i; item = x }) (judge fd (x .tag ∷ seen) p))))
-      wrong true e ih = rw (wrong-is fd x, e)
-      wrong false e ih = again (among (x .tag) seen) refl e ih
+          → (among (x .tag) cs ≡ false → Walked-as fd want (withMark v (x .tag)) (noted want s i x) (x .tag ∷ cs) p (judge fd (x .tag ∷ cs) p))
+          → Walked-as fd want v s cs (found i x p)
+          (cond t (refused 6 (start fd + i)) (cond (among (x .tag) cs) (refused 7 (start fd + i)) (more (record { field = fd; offset = i; item = x }) (judge fd (x .tag ∷ cs) p))))
+      wrong true q ih = rw q (record { number = refl; place = refl; fault = λ z. omega arith })
+      wrong false q ih = again (among (x .tag) cs) refl q ih
 
 -- ---- the message
 
-kept-append : (want : ℕ) (s : State) (os ps : List Opt) → keptAll want (keptAll want s os) ps ≡ keptAll want s (os ++ ps)
-unfolding keptAll
-kept-append want s [] ps = refl
-kept-append want s (o ∷ os) ps = kept-append want (noted (turn (o .field)) want s (o .offset) (o .item)) os ps
+words-append : (w : List ℕ) (os ps : List Opt) → wordsOf (wordsOf w (items os)) (items ps) ≡ wordsOf w (items (os ++ ps))
+unfolding wordsOf items
+words-append w [] ps = refl
+words-append w (o ∷ os) ps = words-append (withMark w (o .item .tag)) os ps
 
-used-append : (os ps : List Opt) → usedBy (items os) + (0 + usedBy (items ps)) ≡ usedBy (items (os ++ ps))
+used-append : (os ps : List Opt) → usedBy (items os) + usedBy (items ps) ≡ usedBy (items (os ++ ps))
 unfolding usedBy items
 used-append [] ps = omega arith
 used-append (o ∷ os) ps = omega (arith, used-append os ps)
@@ -168,163 +237,152 @@ unfolding seenAfter items
 seen-append seen [] ps = refl
 seen-append seen (o ∷ os) ps = seen-append (o .item .tag ∷ seen) os ps
 
--- r is what a walk keeps of the reading w, option 52 being v (0: none)
-pub record Kept (want v : ℕ) (os : List Opt) (r : Walked) : Type 0 where
-  pub is : r ≡ scanIn want (accepted os)
-  pub marks : Marks (keptAll want noState os .seen) (seenAfter [] (items os))
-  pub over : keptAll want noState os .over ≡ v
+start-append : (want d : ℕ) (os ps : List Opt) → lastStart want (lastStart want d os) ps ≡ lastStart want d (os ++ ps)
+unfolding lastStart
+start-append want d [] ps = refl
+start-append want d (o ∷ os) ps = start-append want (cond (eqb want (o .item .tag)) (dataStart o) d) os ps
 
-abbrev pub Scans : ℕ → ℕ → Reading → Walked → Type 0
-Scans want v (refused n p) r = r ≡ stopped n p
-Scans want v (accepted os) r = Kept want v os r
+over-append : (os ps : List Opt) → (overload (items os) ≡ 0 → ⊥) → overload (items (os ++ ps)) ≡ overload (items os)
+unfolding overload items
+over-append [] ps z = absurd (z refl)
+over-append (o ∷ os) ps z = go (eqb (o .item .tag) 52) z (over-append os ps)
+  where
+    go : (t : Bool) → (cond t (getD (o .item .body) 0 0) (overload (items os)) ≡ 0 → ⊥) → ((overload (items os) ≡ 0 → ⊥) → overload (items (os ++ ps)) ≡ overload (items os))
+        → cond t (getD (o .item .body) 0 0) (overload (items (os ++ ps))) ≡ cond t (getD (o .item .body) 0 0) (overload (items os))
+    go true y ih = refl
+    go false y ih = ih y
 
-scans-is : (want v : ℕ) (w : Reading) (r : Walked) → Scans want v w r → r ≡ scanIn want w
-scans-is want v (refused n p) r h = h
-scans-is want v (accepted os) r h = h .is
+abbrev pub keptOf : ℕ → ℕ → List Opt → flat.Walked
+keptOf want v os = record { start = lastStart want 0 os; used = usedBy (items os); place = 0; over = v; number = 0 }
 
-module _ (fd : Field) (want v : ℕ) (m : List ℕ) (b : AllBytes m) where
-  after : (os : List Opt) (w : Reading) → eqb v 0 ≡ false → keptAll want noState os .over ≡ v
-      → Walked-as fd want (keptAll want noState os) 0 (seenAfter [] (items os)) (parse 0 0 (bytes fd m)) w
-      → Scans want v (join os w) (joined (usedBy (items os)) (walkField fd want (keptAll want noState os) (bytes fd m)))
+-- r and w are what is kept of the options os, option 52 being v (0: none)
+pub record Kept (want v : ℕ) (os : List Opt) (r : flat.Walked) (w : List ℕ) : Type 0 where
+  pub is : r ≡ keptOf want v os
+  pub seen : w ≡ withEnds (wordsOf noCodes (items os))
+  pub marks : Marks (wordsOf noCodes (items os)) (seenAfter [] (items os))
+  pub over : overload (items os) ≡ v
+
+pub record Refused (n q : ℕ) (r : flat.Walked) : Type 0 where
+  pub is : r ≡ stopAt n q
+  pub fault : n ≡ 0 → ⊥
+
+abbrev pub Keeps : ℕ → ℕ → Reading → flat.Walked → List ℕ → Type 0
+Keeps want v (refused n q) r w = Refused n q r
+Keeps want v (accepted os) r w = Kept want v os r w
+
+-- a refusal of the field is the message's
+joined-fault : (fd : Field) (w : Walk) (n q : ℕ) (a : flat.Walked) → Stops fd w n q → Refused n q (joined (start fd) (walkedOf w) a)
+joined-fault fd w n q a s =
+    record { is = rw (ne-eqb (w .number) 0 (λ z. s .fault (sym (s .number) ∙ z)), s .number, s .place) refl; fault = s .fault }
+
+-- the first field
+first-keeps : (want : ℕ) (f w : List ℕ) (r : Reading) → withEnds w ≡ withEnds noCodes → Walked-as options want noCodes (begin w) [] (parse 0 0 f) r
+    → Keeps want (overloadOf r) r (joined 240 (walkedOf (walkField true want w f)) (stopAt 0 0)) (walkField true want w f .state .seen)
+unfolding walkField items seenAfter wordsOf lastStart overload
+first-keeps want f w (refused n q) e h = joined-fault options (walkOf true want (begin w) (parse 0 0 f)) n q (stopAt 0 0) h
+first-keeps want f w (accepted os) e h =
+    let k : State = keptAll want (begin w) os in
+    record {
+      is = rw (h .is, h .data-at 0, h .over)
+          (ap (λ (n : ℕ). record { start = lastStart want 0 os; used = n; place = 0; over = overload (items os); number = 0 })
+          (let z : 0 + k .used ≡ usedBy (items os) = omega (arith, h .used) in z));
+      seen = rw (h .is) (h .seen);
+      marks = h .marks;
+      over = refl;
+    }
+
+module _ (fd : Field) (want v : ℕ) (m : List ℕ) (b : AllBytes m) (o : isOptions fd ≡ false) (e : eqb v 0 ≡ false) where
+  -- one more field
+  more-keeps : (os : List Opt) (r : Reading) (a : flat.Walked) (w : List ℕ) → Kept want v os a w
+      → Walked-as fd want (wordsOf noCodes (items os)) (begin w) (seenAfter [] (items os)) (parse 0 0 (bytes fd m)) r
+      → Keeps want v (join os r) (joined (start fd) (walkedOf (walkField false want w (bytes fd m))) a) (walkField false want w (bytes fd m) .state .seen)
   unfolding walkField
-  after os (refused n p) e o h = rw h
-  after os (accepted ps) e o h =
+  more-keeps os (refused n q) a w k h = joined-fault fd (walkOf false want (begin w) (parse 0 0 (bytes fd m))) n q a (rw o at h)
+  more-keeps os (accepted ps) a w k h =
+      let s : State = keptAll want (begin w) ps in
+      let i : walkOf false want (begin w) (parse 0 0 (bytes fd m)) ≡ stop s 0 0 = rw (← o) (h .is) in
+      let u : usedBy (items os) + s .used ≡ usedBy (items (os ++ ps)) = omega (arith, h .used, used-append os ps) in
       record {
-        is = rw (h .is)
-            (ap₂ (λ (s : State) (k : ℕ). record { state = s; used = k; end = Closed }) (kept-append want noState os ps) (used-append os ps));
-        marks = rw (← kept-append want noState os ps, ← seen-append [] os ps) (h .marks);
-        over = ap (λ (s : State). s .over) (sym (kept-append want noState os ps)) ∙ h .over ∙ rw (o, e);
+        is = rw (i, k .is, h .data-at (lastStart want 0 os), start-append want 0 os ps, e, u) refl;
+        seen = rw (i, ← words-append noCodes os ps) (h .seen);
+        marks = rw (← words-append noCodes os ps, ← seen-append [] os ps) (h .marks);
+        over = over-append os ps (λ z. eqb-false v 0 e (sym (k .over) ∙ z)) ∙ k .over;
       }
 
-  scans-more : (on : Bool) (w : Reading) (r : Walked) → (on ≡ true → eqb v 0 ≡ false) → Scans want v w r → Scans want v (extend on fd m w) (walkIf on fd want (bytes fd m) r)
-  unfolding walkIf
-  scans-more false w r e h = h
-  scans-more true (refused n p) r e h = rw h
-  scans-more true (accepted os) r e h =
-      rw (h .is)
-      (after os (judge fd (seenAfter [] (items os)) (parse 0 0 (bytes fd m))) (e refl) (h .over)
-      (walk-judged fd want (keptAll want noState os) 0 (seenAfter [] (items os)) (parse 0 0 (bytes fd m)) (h .marks) (parse-small 0 0 (bytes fd m) (all-field fd m b))))
+  keeps-more : (on : Bool) (r : Reading) (a : flat.Walked) (w : List ℕ) → Keeps want v r a w → a .number ≡ 0
+      → Keeps want v (extend on fd m r) (joined (start fd) (walkedOf (walkIf on want w (bytes fd m))) a) (walkIf on want w (bytes fd m) .state .seen)
+  keeps-more on (refused n q) a w k z = absurd (k .fault (sym (ap (λ (x : flat.Walked). x .number) (k .is)) ∙ z))
+  keeps-more false (accepted os) a w k z =
+      let u : usedBy (items os) + 0 ≡ usedBy (items os) = omega arith in
+      record { is = rw (k .is, e, u) refl; seen = k .seen; marks = k .marks; over = k .over }
+  keeps-more true (accepted os) a w k z =
+      more-keeps os (judge fd (seenAfter [] (items os)) (parse 0 0 (bytes fd m))) a w k
+      (walk-judged fd want (wordsOf noCodes (items os)) (begin w) (seenAfter [] (items os)) (parse 0 0 (bytes fd m))
+      (ap withEnds (k .seen) ∙ ends-twice (wordsOf noCodes (items os)) (k .marks .four)) (k .marks) (parse-codes 0 0 (bytes fd m) (all-field fd m b)))
+
+-- a refusal goes through
+keeps-fault : (want v : ℕ) (on : Bool) (fd : Field) (m : List ℕ) (r : Reading) (a : flat.Walked) (w w′ : List ℕ) → Keeps want v r a w → (a .number ≡ 0 → ⊥) → Keeps want v (extend on fd m r) a w′
+keeps-fault want v false fd m (refused n q) a w w′ k z = k
+keeps-fault want v true fd m (refused n q) a w w′ k z = k
+keeps-fault want v on fd m (accepted os) a w w′ k z = absurd (z (ap (λ (x : flat.Walked). x .number) (k .is)))
 
 -- the options field alone
 unfoldable pub firstField : List ℕ → Reading
 firstField m = join [] (judge options [] (parse 0 0 (drop 240 m)))
 
-first-scans : (want : ℕ) (m : List ℕ) (w : Reading) → Walked-as options want noState 0 [] (parse 0 0 (drop 240 m)) w
-    → Scans want (overloadOf (join [] w)) (join [] w) (walkField options want noState (drop 240 m))
-    × (walkField options want noState (drop 240 m) .state .over ≡ overloadOf (join [] w))
-unfolding walkField usedBy keptAll items seenAfter
-first-scans want m (refused n p) h = (h, ap (λ (x : Walked). x .state .over) h)
-first-scans want m (accepted os) h = (
-  record {
-    is = h .is
-        ∙ ap (λ (k : ℕ). record { state = keptAll want noState os; used = k; end = Closed }) (let z : 0 + usedBy (items os) ≡ usedBy (items os) = omega arith in z);
-    marks = h .marks;
-    over = h .over;
-  },
-  ap (λ (x : Walked). x .state .over) (h .is) ∙ h .over,
-)
-
--- a field is active only where option 52 is not 0
-file-over : (v : ℕ) → fileIn v ≡ true → eqb v 0 ≡ false
-file-over zero e = absurd (let z : _≡_ {A = ℕ} 0 1 = cc in omega arith)
-file-over (suc v) e = ne-eqb (suc v) 0 (omega arith)
-
-sname-over : (v : ℕ) → snameIn v ≡ true → eqb v 0 ≡ false
-sname-over zero e = absurd (let z : _≡_ {A = ℕ} 0 1 = cc in omega arith)
-sname-over (suc v) e = ne-eqb (suc v) 0 (omega arith)
+keeps-over : (want v : ℕ) (r : Reading) (a : flat.Walked) (w : List ℕ) → v ≡ overloadOf r → Keeps want v r a w → a .over ≡ v
+keeps-over want v (refused n q) a w e k = ap (λ (x : flat.Walked). x .over) (k .is) ∙ sym e
+keeps-over want v (accepted os) a w e k = ap (λ (x : flat.Walked). x .over) (k .is)
 
 module _ (want : ℕ) (m : List ℕ) (b : AllBytes m) where
+  -- sname, after a reading r of options and file
+  last-keeps : (v : ℕ) (r : Reading) (a : flat.Walked) (w : List ℕ) → eqb v 0 ≡ false → Keeps want v r a w
+      → Keeps want v (extend (snameIn v) sname m r) (lastField want m v a w .kept) (lastField want m v a w .seen)
+  last-keeps v r a w e k = go (eqb (a .number) 0) refl
+    where
+      go : (t : Bool) → eqb (a .number) 0 ≡ t → Keeps want v (extend (snameIn v) sname m r) (lastField want m v a w .kept) (lastField want m v a w .seen)
+      go true q = rw q (keeps-more sname want v m b refl e (snameIn v) r a w k (eqb-true (a .number) 0 q))
+      go false q = rw q (keeps-fault want v (snameIn v) sname m r a w w k (eqb-false (a .number) 0 q))
+
   abbrev v : ℕ
   v = overloadOf (firstField m)
 
-  first-is : Scans want v (firstField m) (walkField options want noState (drop 240 m)) × (walkField options want noState (drop 240 m) .state .over ≡ v)
+  first-is : (w : List ℕ) → withEnds w ≡ withEnds noCodes
+      → Keeps want v (firstField m) (joined 240 (walkedOf (walkField true want w (drop 240 m))) (stopAt 0 0)) (walkField true want w (drop 240 m) .state .seen)
   unfolding firstField
-  first-is =
-      first-scans want m (judge options [] (parse 0 0 (drop 240 m)))
-      (walk-judged options want noState 0 [] (parse 0 0 (drop 240 m)) marks-none (parse-small 0 0 (drop 240 m) (all-field options m b)))
-
-  pub all-scanned : Scans want v (allFields m) (walked want m (walkField options want noState (drop 240 m)))
-  unfolding allFields firstField items seenAfter
-  all-scanned =
-      let a : Walked = walkField options want noState (drop 240 m) in
-      subst (λ (x : ℕ). Scans want v (allFields m) (walkIf (snameIn x) sname want (bytes sname m) (walkIf (fileIn x) file want (bytes file m) a))) (sym (first-is .1))
-      (scans-more sname want v m b (snameIn v) (extend (fileIn v) file m (firstField m)) (walkIf (fileIn v) file want (bytes file m) a) (sname-over v)
-      (scans-more file want v m b (fileIn v) (firstField m) a (file-over v) (first-is .0)))
-
--- length, cookie and options, and then the further fields, are the whole
-module _ (want : ℕ) (m : List ℕ) (b : AllBytes m) where
-  fields : walked want m (walkField options want noState (drop 240 m)) ≡ scanIn want (allFields m)
-  fields = scans-is want (overloadOf (firstField m)) (allFields m) (walked want m (walkField options want noState (drop 240 m))) (all-scanned want m b)
-
-  whole : walked want m (firstOf want m) ≡ scanOf want m
-  unfolding firstOf scanOf readMessage walkIf
-  whole = go (ltb (length m) 240) (ltb 1472 (length m)) (same (take 4 (drop 236 m)) cookie)
+  first-is w e = go (judge options [] (parse 0 0 (drop 240 m))) refl
     where
-      go : (x y z : Bool)
-          → walked want m (cond x (stopped 1 (length m)) (cond y (stopped 2 (length m)) (cond z (walkField options want noState (drop 240 m)) (stopped 3 236))))
-          ≡ scanIn want (cond x (refused 1 (length m)) (cond y (refused 2 (length m)) (cond z (allFields m) (refused 3 236))))
-      go true y z = refl
-      go false true z = refl
-      go false false true = fields
-      go false false false = refl
+      all : Walked-as options want noCodes (begin w) [] (parse 0 0 (drop 240 m)) (judge options [] (parse 0 0 (drop 240 m)))
+      all = walk-judged options want noCodes (begin w) [] (parse 0 0 (drop 240 m)) e marks-none (parse-codes 0 0 (drop 240 m) (all-field options m b))
 
--- where option 52 is not there, no further field is walked
-walked-none : (want : ℕ) (m : List ℕ) (a : Walked) → a .state .over ≡ 0 → a ≡ walked want m a
-unfolding walkIf
-walked-none want m a e = rw e
+      go : (r : Reading) → judge options [] (parse 0 0 (drop 240 m)) ≡ r
+          → Keeps want (overloadOf (join [] r)) (join [] r) (joined 240 (walkedOf (walkField true want w (drop 240 m))) (stopAt 0 0)) (walkField true want w (drop 240 m) .state .seen)
+      go (refused n q) z = first-keeps want (drop 240 m) w (refused n q) e (subst (λ (r : Reading). Walked-as options want noCodes (begin w) [] (parse 0 0 (drop 240 m)) r) z all)
+      go (accepted os) z = first-keeps want (drop 240 m) w (accepted os) e (subst (λ (r : Reading). Walked-as options want noCodes (begin w) [] (parse 0 0 (drop 240 m)) r) z all)
 
-pub first-alone : {want : ℕ} {m : List ℕ} {a : flat.Walked} → AllBytes m → First want m a → a .over ≡ 0 → walkedOf a ≡ scanOf want m
-first-alone {want} {m} {a} b f e = walked-none want m (walkedOf a) e ∙ ap (walked want m) (f .is) ∙ whole want m b
+  -- where option 52 was met the options are not refused
+  no-fault : (x : ℕ) (r : Reading) (a : flat.Walked) (w : List ℕ) → eqb x 0 ≡ false → a .over ≡ x → Keeps want x r a w → a .number ≡ 0
+  no-fault x (refused n q) a w e p k = absurd (eqb-false x 0 e (sym p ∙ ap (λ (y : flat.Walked). y .over) (k .is)))
+  no-fault x (accepted os) a w e p k = ap (λ (y : flat.Walked). y .number) (k .is)
 
-too-short : (want : ℕ) (m : List ℕ) → ltb (length m) 240 ≡ true → firstOf want m ≡ scanOf want m
-unfolding firstOf scanOf readMessage
-too-short want m q = rw q
+  -- file and sname, after a reading r of options
+  further-keeps : (x : ℕ) (r : Reading) (a : flat.Walked) (w : List ℕ) → x ≡ overloadOf r → a .over ≡ x → Keeps want x r a w
+      → Keeps want x (extend (snameIn x) sname m (extend (fileIn x) file m r)) (furtherFields want m a w .kept) (furtherFields want m a w .seen)
+  further-keeps x r a w o p k = go (eqb x 0) refl
+    where
+      go : (t : Bool) → eqb x 0 ≡ t → Keeps want x (extend (snameIn x) sname m (extend (fileIn x) file m r)) (furtherFields want m a w .kept) (furtherFields want m a w .seen)
+      go true q = let z : x ≡ 0 = eqb-true x 0 q in rw (eq-eqb (a .over) 0 (p ∙ z), z) (rw z at k)
+      go false q =
+          let after : ℕ → Fields = λ (y : ℕ). lastField want m y (joined 108 (walkedOf (walkIf (fileIn y) want w (bytes file m))) a) (walkIf (fileIn y) want w (bytes file m) .state .seen) in
+          let e : furtherFields want m a w ≡ after x =
+          later (eqb (a .over) 0) (record { kept = a; seen = w }) (after (a .over)) (ap (λ (y : ℕ). eqb y 0) p ∙ q) ∙ ap after p in
+          subst (λ (f : Fields). Keeps want x (extend (snameIn x) sname m (extend (fileIn x) file m r)) (f .kept) (f .seen)) (sym e)
+          (last-keeps x (extend (fileIn x) file m r) (joined 108 (walkedOf (walkIf (fileIn x) want w (bytes file m))) a) (walkIf (fileIn x) want w (bytes file m) .state .seen) q
+          (keeps-more file want x m b refl q (fileIn x) r a w k (no-fault x r a w q p k)))
 
--- a refusal is handed on
-walked-fault : (want : ℕ) (m : List ℕ) (a : Walked) (n p : ℕ) → a .end ≡ Fault n p → a ≡ walked want m a
-unfolding walkIf
-walked-fault want m a n p e = go (fileIn (a .state .over)) (snameIn (a .state .over))
-  where
-    go : (f s : Bool) → a ≡ walkIf s sname want (bytes sname m) (walkIf f file want (bytes file m) a)
-    go false false = refl
-    go false true = rw e
-    go true false = rw e
-    go true true = rw e
-
-pub first-further : {want : ℕ} {m : List ℕ} {a r : flat.Walked} → AllBytes m → First want m a → Further want m a r → walkedOf r ≡ scanOf want m
-first-further {want} {m} {a} {r} b f g = g .is ∙ go (ltb (length m) 240) refl
-  where
-    rest : walked want m (walkedOf a) ≡ scanOf want m
-    rest = ap (walked want m) (f .is) ∙ whole want m b
-
-    placed : (x : Bool) → eqb (a .place) 0 ≡ x → cond x (walked want m (walkedOf a)) (walkedOf a) ≡ scanOf want m
-    placed true q = rest
-    placed false q = walked-fault want m (walkedOf a) (a .number) (a .place) (rw (ne-eqb (a .number) 0 (λ z. eqb-false (a .place) 0 q (f .no-place z)))) ∙ rest
-
-    go : (x : Bool) → ltb (length m) 240 ≡ x → furtherOf want m a ≡ scanOf want m
-    go true q = rw q (f .is ∙ too-short want m q)
-    go false q = rw (q, le-ltb 8192 (a .used) (f .small)) (placed (eqb (a .place) 0) refl)
-
-further-fault : (want : ℕ) (m : List ℕ) (a : flat.Walked) → (a .number ≡ 0 → ⊥) → furtherOf want m a ≡ walkedOf a
-further-fault want m a z = go (ltb (length m) 240) (ltb 8192 (a .used)) (eqb (a .place) 0)
-  where
-    on : walked want m (walkedOf a) ≡ walkedOf a
-    on = sym (walked-fault want m (walkedOf a) (a .number) (a .place) (rw (ne-eqb (a .number) 0 z)))
-
-    go : (x y w : Bool) → cond x (walkedOf a) (cond y (walkedOf a) (cond w (walked want m (walkedOf a)) (walkedOf a))) ≡ walkedOf a
-    go true y w = refl
-    go false true w = refl
-    go false false true = on
-    go false false false = refl
-
-pub first-place : {want : ℕ} {m : List ℕ} {a r : flat.Walked} → First want m a → Further want m a r → r .number ≡ 0 → r .place ≡ 0
-first-place {want} {m} {a} {r} f g z = go (eqb (a .number) 0) refl
-  where
-    no-fault : (n p : ℕ) → Closed ≡ Fault n p → ⊥
-    no-fault n p e = let k : _≡_ {A = ℕ} 0 1 = cc in omega arith
-
-    go : (x : Bool) → eqb (a .number) 0 ≡ x → r .place ≡ 0
-    go true q = g .place z ∙ f .no-place (eqb-true (a .number) 0 q)
-    go false q =
-        let e : walkedOf r .end ≡ walkedOf a .end = ap (λ (w : Walked). w .end) (g .is ∙ further-fault want m a (eqb-false (a .number) 0 q)) in
-        absurd (no-fault (a .number) (a .place) (rw (z, q) at e))
+  pub fields-keep : (w : List ℕ) → withEnds w ≡ withEnds noCodes → Keeps want v (allFields m) (fieldsOf want m w .kept) (fieldsOf want m w .seen)
+  unfolding allFields firstField fieldsOf items seenAfter
+  fields-keep w e =
+      let o : Walk = walkField true want w (drop 240 m) in
+      let a : flat.Walked = joined 240 (walkedOf o) (stopAt 0 0) in
+      further-keeps v (firstField m) a (o .state .seen) refl (keeps-over want v (firstField m) a (o .state .seen) refl (first-is w e)) (first-is w e)

@@ -1,81 +1,108 @@
--- What a walk for a code keeps of the reading of a message. Assumes nothing.
+-- What a walk over a message keeps: as it follows from the reading, and field after field as the code walks. Assumes nothing.
 use mathlib.Core.Path.{_≡_}
 use mathlib.Core.Bool.{Bool, true, false, cond}
 use mathlib.Core.List.{List, [], _∷_}
+use mathlib.Core.Option.{Option, none, some}
 use Prim.Native.Nat.{ℕ, _+_, _≤_}
 use lib.ListN.{length, take, drop}
 use lib.Dec.{ltb, eqb}
-use Rattle.options.specs.Message.{Field, options, file, sname, turn, bytes, cookie, shortest, longest, Rec, Opt}
-use Rattle.options.specs.Reading.{Reading, accepted, refused, items, readMessage, same, fileIn, snameIn}
-use Rattle.wire.specs.Walk.{State, End, Closed, Fault, Walked, walkedOf, noState, stopped, sizeOf, noted, walkField}
+use Rattle.options.specs.Message.{file, sname, bytes, cookie, shortest, longest, Rec, Opt, dataStart}
+use Rattle.options.specs.Reading.{Reading, accepted, refused, items, overload, readMessage, same, fileIn, snameIn, find}
+use Rattle.options.specs.Answers.{present}
+use Rattle.wire.specs.Walk.{Walk, stop, sizeOf, walkField, walkedOf}
 use Rattle.wire.specs.declared.Walked as flat
 
--- the options, in reading order, noted one after another
-unfoldable pub keptAll : ℕ → State → List Opt → State
-keptAll want s [] = s
-keptAll want s (o ∷ os) = keptAll want (noted (turn (o .field)) want s (o .offset) (o .item)) os
+-- where the data of an option start, or 0 where there is none
+abbrev pub startOf : Option Opt → ℕ
+startOf none = 0
+startOf (some o) = dataStart o
 
--- what they take in their fields
+-- what options take in their fields
 unfoldable pub usedBy : List Rec → ℕ
 usedBy [] = 0
 usedBy (r ∷ rs) = sizeOf r + usedBy rs
 
-abbrev pub scanIn : ℕ → Reading → Walked
-scanIn want (refused n p) = stopped n p
-scanIn want (accepted os) = record { state = keptAll want noState os; used = usedBy (items os); end = Closed }
+-- a refusal tells nothing of what was met before it; with number 0: nothing met
+abbrev pub stopAt : ℕ → ℕ → flat.Walked
+stopAt n p = record { start = 0; used = 0; place = p; over = 0; number = n }
 
-unfoldable pub scanOf : ℕ → List ℕ → Walked
-unfolding keptAll usedBy items readMessage
+abbrev pub scanIn : ℕ → Reading → flat.Walked
+scanIn want (refused n p) = stopAt n p
+scanIn want (accepted os) =
+    record { start = startOf (find want os); used = usedBy (items os); place = 0; over = overload (items os); number = 0 }
+
+unfoldable pub scanOf : ℕ → List ℕ → flat.Walked
+unfolding find usedBy items overload readMessage
 scanOf want m = scanIn want (readMessage m)
 
--- ---- one field more, as the code walks it
+-- r is what is kept of m, and w its codes as four words (document 01: the roll call)
+pub record Scans (want : ℕ) (m : List ℕ) (r : flat.Walked) (w : List ℕ) : Type 0 where
+  pub is : r ≡ scanOf want m
+  pub codes : w ≡ present m .words
 
-abbrev pub joinedAt : End → ℕ → Walked → Walked
-joinedAt (Fault n p) used r = r
-joinedAt Closed used r = record { state = r .state; used = used + r .used; end = Closed }
+-- ---- as the code walks
 
-abbrev pub joined : ℕ → Walked → Walked
-joined used r = joinedAt (r .end) used r
+-- 1, 2 or 3 where length or cookie are refused, else 0
+abbrev pub unfitOf : List ℕ → ℕ
+unfitOf m =
+    cond (ltb (length m) shortest) 1 (cond (ltb longest (length m)) 2 (cond (same (take 4 (drop 236 m)) cookie) 0 3))
 
-abbrev pub walkAfter : End → Field → ℕ → List ℕ → Walked → Walked
-walkAfter (Fault n p) fd want f w = w
-walkAfter Closed fd want f w = joined (w .used) (walkField fd want (w .state) f)
+-- the first value that is not 0
+abbrev pub either0 : ℕ → ℕ → ℕ
+either0 a b = cond (eqb a 0) b a
 
-unfoldable pub walkIf : Bool → Field → ℕ → List ℕ → Walked → Walked
-walkIf false fd want f w = w
-walkIf true fd want f w = walkAfter (w .end) fd want f w
+-- the walk w of one more field, whose first byte is at base, on top of a
+abbrev pub joined : ℕ → flat.Walked → flat.Walked → flat.Walked
+joined base w a =
+    cond (eqb (w .number) 0)
+    (record {
+      start = cond (eqb (w .start) 0) (a .start) (base + w .start);
+      used = a .used + w .used;
+      place = 0;
+      over = either0 (a .over) (w .over);
+      number = 0;
+    })
+    (stopAt (w .number) (base + w .place))
 
--- length and cookie, and the options
-unfoldable pub firstOf : ℕ → List ℕ → Walked
-firstOf want m =
-    cond (ltb (length m) shortest) (stopped 1 (length m))
-    (cond (ltb longest (length m)) (stopped 2 (length m))
-    (cond (same (take 4 (drop 236 m)) cookie) (walkField options want noState (drop 240 m)) (stopped 3 236)))
+-- a further field, where it is active
+abbrev pub walkIf : Bool → ℕ → List ℕ → List ℕ → Walk
+walkIf true want w f = walkField false want w f
+walkIf false want w f = stop (record { seen = w; start = 0; over = 0; used = 0 }) 0 0
 
--- the further fields, by the value of option 52
-abbrev pub walked : ℕ → List ℕ → Walked → Walked
-walked want m a = walkIf (snameIn (a .state .over)) sname want (bytes sname m) (walkIf (fileIn (a .state .over)) file want (bytes file m) a)
+-- what was kept, and the codes met
+pub record Fields : Type 0 where
+  pub kept : flat.Walked
+  pub seen : List ℕ
 
--- a refusal, and what cannot come of a message of 240 to 1,472 bytes, are given back
-abbrev pub furtherOf : ℕ → List ℕ → flat.Walked → Walked
-furtherOf want m a = cond (ltb (length m) shortest) (walkedOf a) (cond (ltb 8192 (a .used)) (walkedOf a) (cond (eqb (a .place) 0) (walked want m (walkedOf a)) (walkedOf a)))
+-- sname, after a file b that was kept
+abbrev pub lastField : ℕ → List ℕ → ℕ → flat.Walked → List ℕ → Fields
+lastField want m v b w =
+    let s : Walk = walkIf (snameIn v) want w (bytes sname m) in
+    cond (eqb (b .number) 0) (record { kept = joined 44 (walkedOf s) b; seen = s .state .seen }) (record { kept = b; seen = w })
 
-pub record First (want : ℕ) (m : List ℕ) (r : flat.Walked) : Type 0 where
-  pub is : walkedOf r ≡ firstOf want m
-  pub small : r .used ≤ 8192
-  pub no-place : r .number ≡ 0 → r .place ≡ 0
+-- file and sname, after options a that were kept
+abbrev pub furtherFields : ℕ → List ℕ → flat.Walked → List ℕ → Fields
+furtherFields want m a w =
+    let f : Walk = walkIf (fileIn (a .over)) want w (bytes file m) in
+    let last : Fields = lastField want m (a .over) (joined 108 (walkedOf f) a) (f .state .seen) in
+    cond (eqb (a .over) 0) (record { kept = a; seen = w }) last
 
-pub record Further (want : ℕ) (m : List ℕ) (a r : flat.Walked) : Type 0 where
-  pub is : walkedOf r ≡ furtherOf want m a
-  pub place : r .number ≡ 0 → r .place ≡ a .place
+unfoldable pub fieldsOf : ℕ → List ℕ → List ℕ → Fields
+unfolding walkField
+fieldsOf want m w =
+    let o : Walk = walkField true want w (drop 240 m) in
+    furtherFields want m (joined 240 (walkedOf o) (stopAt 0 0)) (o .state .seen)
 
--- r is what is wanted, and its options take at most the field more than those of w
-pub record Grown (w : flat.Walked) (f : List ℕ) (wanted : Walked) (r : flat.Walked) : Type 0 where
-  pub is : walkedOf r ≡ wanted
-  pub within : r .used ≤ w .used + length f
-  pub no-place : (w .number ≡ 0 → w .place ≡ 0) → r .number ≡ 0 → r .place ≡ 0
+-- the results of the code's functions, and the set of codes that they leave
 
--- r is w, and without a refusal there is no place
-pub record Scanned (w : Walked) (r : flat.Walked) : Type 0 where
-  pub is : walkedOf r ≡ w
-  pub no-place : r .number ≡ 0 → r .place ≡ 0
+-- r is the walk k, and what it tells is within 65,536 bytes
+pub record Goes (k : Walk) (r : flat.Walked) (w : List ℕ) : Type 0 where
+  pub is : r ≡ walkedOf k
+  pub codes : w ≡ k .state .seen
+  pub start-in : r .start ≤ 65536
+  pub used-in : r .used ≤ 65536
+  pub place-in : r .place ≤ 65536
+
+pub record Gives (f : Fields) (r : flat.Walked) (w : List ℕ) : Type 0 where
+  pub is : r ≡ f .kept
+  pub codes : w ≡ f .seen

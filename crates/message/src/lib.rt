@@ -1,12 +1,12 @@
 // One walk over a whole message (document 01, The message and its fields): the length and the cookie, then options, file and sname.
 ghost use mathlib.Core.Path.{_≡_};
-ghost use Prim.Native.Nat.{_+_, _≤_};
+ghost use mathlib.Core.Bool.{cond};
+ghost use Prim.Native.Nat.{_≤_};
+ghost use lib.Dec.{eqb};
 ghost use lib.ListN.{length, take, drop};
 ghost use Rattle.options.specs.Message.{cookie};
 ghost use Rattle.options.specs.Reading.{same, fileIn, snameIn};
-ghost use Rattle.wire.specs.Walk.{fieldOf, walkedOf};
-ghost use Rattle.message.specs.Scan.{scanOf, joined, walkIf, First, Further, Grown, Scanned};
-use wire::Field;
+ghost use Rattle.message.specs.Scan.{stopAt, scanOf, Scans, unfitOf, either0, joined, walkIf, fieldsOf, Goes, Gives};
 use wire::Walked;
 
 // The len bytes from start on, or those of them that there are.
@@ -56,85 +56,133 @@ pub fn sname_on(v: u32) -> bool
     v == 2 || v == 3
 }
 
-// A walk's result, on top of options that take `used` bytes in the fields before.
-fn join(used: usize, r: Walked) -> Walked
-    requires { ⌜ (used ≤ 65536) × (r .used ≤ 65536) ⌝ }
-    ensures { λ w. ⌜ (walkedOf w ≡ joined used (walkedOf r)) × (w .used ≤ used + r .used) × (w .number ≡ 0 → w .place ≡ 0) ⌝ }
+// A refusal: nothing is told of what was met before it. With number 0: nothing met yet.
+fn stop(number: u32, place: usize) -> Walked
+    ensures { λ r. ⌜ r ≡ stopAt number place ⌝ }
 {
-    if r.number != 0 {
-        return r;
-    }
-    let seen = r.seen;
-    let all = used + r.used;
     Walked {
-        seen,
-        offset: r.offset,
-        used: all,
+        start: 0,
+        used: 0,
+        place,
+        over: 0,
+        number,
+    }
+}
+
+// The first value that is not 0.
+fn first_of(a: u32, b: u32) -> u32
+    ensures { λ r. ⌜ r ≡ either0 a b ⌝ }
+{
+    if a == 0 { b } else { a }
+}
+
+// The walk of one more field, whose first byte is at base, on top of the fields before.
+fn join(base: usize, w: Walked, a: Walked) -> Walked
+    requires { ⌜ (base ≤ 240) × (w .start ≤ 65536) × (w .used ≤ 65536) × (w .place ≤ 65536) × (a .used ≤ 262144) ⌝ }
+    ensures { λ r. ⌜ r ≡ joined base w a ⌝ }
+{
+    if w.number != 0 {
+        return stop(w.number, base + w.place);
+    }
+    let used = a.used + w.used;
+    let over = first_of(a.over, w.over);
+    if w.start == 0 {
+        return Walked {
+            start: a.start,
+            used,
+            place: 0,
+            over,
+            number: 0,
+        };
+    }
+    Walked {
+        start: base + w.start,
+        used,
         place: 0,
-        field: r.field,
-        len: r.len,
-        over: r.over,
+        over,
         number: 0,
     }
 }
 
-// Walks a further field, where it is active and nothing was refused before.
-fn walk_if(on: bool, field: Field, f: &[u8], want: u8, w: Walked) -> Walked
-    requires { ⌜ (w .used ≤ 16384) × (length (now f) ≤ 8192) ⌝ }
-    ensures { λ r. ⌜ Grown w (now (f .entry)) (walkIf on (fieldOf field) want (now (f .entry)) (walkedOf w)) r ⌝ }
+// Walks file or sname, where it is active.
+fn walk_if(on: bool, f: &[u8], want: u8, seen: &mut [u64; 4]) -> Walked
+    requires { ⌜ length (now f) ≤ 65536 ⌝ }
+    ensures { λ r. ⌜ Goes (walkIf on want (now (seen .entry)) (now (f .entry))) r (now (seen .exit)) ⌝ }
 {
     if !on {
-        return w;
+        return stop(0, 0);
     }
-    if w.number != 0 {
-        return w;
-    }
-    join(w.used, wire::walk(field, f, want, w))
+    wire::walk(false, f, want, seen)
 }
 
-// The tests of length and cookie, and the walk of options: all there is to a message without option 52.
-pub fn first(m: &[u8], want: u8) -> Walked
-    ensures { λ r. ⌜ First want (now (m .entry)) r ⌝ }
-{
-    let n = m.len();
-    if n < 240 {
-        return wire::stop(1, n);
-    }
-    if 1472 < n {
-        return wire::stop(2, n);
-    }
-    if !cookie_ok(m) {
-        return wire::stop(3, 236);
-    }
-    wire::walk(Field::Options, &m[240..], want, wire::stop(0, 0))
-}
-
-// Walks file and sname on top of that, where option 52 makes them active. What can be no walk of a message is given back.
-pub fn further(m: &[u8], want: u8, a: Walked) -> Walked
-    ensures { λ r. ⌜ Further want (now (m .entry)) a r ⌝ }
+// The number of the refusal of a message's length or cookie, or 0.
+fn unfit(m: &[u8]) -> u32
+    ensures { λ r. ⌜ r ≡ unfitOf (now (m .entry)) ⌝ }
 {
     if m.len() < 240 {
-        return a;
+        return 1;
     }
-    if 8192 < a.used {
-        return a;
+    if 1472 < m.len() {
+        return 2;
     }
-    if a.place != 0 {
-        return a;
+    if !cookie_ok(m) {
+        return 3;
     }
-    let v = a.over;
-    let b = walk_if(file_on(v), Field::File, &m[108..236], want, a);
-    walk_if(sname_on(v), Field::Sname, &m[44..108], want, b)
+    0
 }
 
-// Walks the message once: what is kept of its options, the code wanted among them, or the refusal.
-pub fn scan(m: &[u8], want: u8) -> Walked
-    ensures { λ r. ⌜ Scanned (scanOf want (now (m .entry))) r ⌝ }
+// Its place: the message's length, or the cookie's.
+fn unfit_place(m: &[u8], number: u32) -> usize
+    ensures { λ r. ⌜ r ≡ cond (eqb number 3) 236 (length (now (m .entry))) ⌝ }
 {
-    let a = first(m, want);
+    if number == 3 {
+        return 236;
+    }
+    m.len()
+}
+
+// Walks the fields of a message whose length is right: options, and file and sname where option 52 makes them active.
+fn fields(m: &[u8], want: u8, seen: &mut [u64; 4]) -> Walked
+    requires { ⌜ (240 ≤ length (now m)) × (length (now m) ≤ 1472) ⌝ }
+    ensures { λ r. ⌜ Gives (fieldsOf want (now (m .entry)) (now (seen .entry))) r (now (seen .exit)) ⌝ }
+{
+    let a = join(240, wire::walk(true, &m[240..], want, seen), stop(0, 0));
     let v = a.over;
     if v == 0 {
         return a;
     }
-    further(m, want, a)
+    let b = join(108, walk_if(file_on(v), &m[108..236], want, seen), a);
+    if b.number != 0 {
+        return b;
+    }
+    join(44, walk_if(sname_on(v), &m[44..108], want, seen), b)
+}
+
+// Walks the message once: what is kept of its options, the code wanted among them, or the refusal. The lent set becomes that of its codes; a refusal
+// leaves it empty.
+pub fn scan(m: &[u8], want: u8, seen: &mut [u64; 4]) -> Walked
+    ensures { λ r. ⌜ Scans want (now (m .entry)) r (now (seen .exit)) ⌝ }
+{
+    let number = unfit(m);
+    if number != 0 {
+        *seen = [0; 4];
+        return stop(number, unfit_place(m, number));
+    }
+    *seen = wire::NO_CODES;
+    let r = fields(m, want, seen);
+    if r.number != 0 {
+        *seen = [0; 4];
+        return r;
+    }
+    seen[0] = seen[0] - 1;
+    seen[3] = seen[3] - 9223372036854775808;
+    r
+}
+
+// The same for a caller that needs no set of codes.
+pub fn find(m: &[u8], want: u8) -> Walked
+    ensures { λ r. ⌜ r ≡ scanOf want (now (m .entry)) ⌝ }
+{
+    let mut seen = [0; 4];
+    scan(m, want, &mut seen)
 }

@@ -15,8 +15,8 @@ pub struct Codes {
 pub fn present(m: &[u8]) -> Codes
     ensures { λ r. ⌜ r ≡ codesOf (present (now (m .entry))) ⌝ }
 {
-    let w = message::scan(m, 0);
-    let words = w.seen;
+    let mut words = [0; 4];
+    let w = message::scan(m, 0, &mut words);
     let count = codeset::count(words);
     let lowest = codeset::lowest(words);
     Codes {

@@ -1,11 +1,14 @@
 -- Laws of what is laid over a buffer. Assumes nothing.
 use mathlib.Core.Path.{_≡_, sym, ap, _∙_}
-use mathlib.Core.List.{List, [], _∷_, _++_, append-assoc}
-use Prim.Native.Nat.{ℕ, suc, _+_, _≤_}
+use mathlib.Core.List.{List, [], _∷_, _++_, append-assoc, append-nil}
+use Prim.Native.Nat.{ℕ, suc, _+_, _-_, _≤_}
 use native.Mathlib.Nat.{add-zero}
 use native.Mathlib.Omega.{arith}
-use lib.ListN.{length, take, drop, set, length-append, take-append-drop}
+use lib.ListN.{length, take, drop, set, length-append, take-append-drop, drop-of-length-le}
 use lib.Seq.{length-take-le, take-at, drop-at, drop-drop, sets-eq}
+use borrow.Rule.Slice.PartMut.{putMid, midOf, mid-len, post-is}
+use Rattle.buffer.specs.Copy.{copied}
+use Rattle.buffer.proofs.Copied.{copied-fits}
 use Rattle.records.specs.Fill.{laid}
 
 pub laid-nil : (d : List ℕ) (at : ℕ) → laid d at [] ≡ d
@@ -38,3 +41,13 @@ laid-laid d at r s h =
 -- the same, at a place that is told otherwise
 pub laid-next : (d : List ℕ) (at k : ℕ) (r s : List ℕ) → k ≡ at + length r → at + length r + length s ≤ length d → laid (laid d at r) k s ≡ laid d at (r ++ s)
 laid-next d at k r s e h = rw e (laid-laid d at r s h)
+
+-- a copy into a part that is as long as what is copied
+pub laid-copied : (d : List ℕ) (a e : ℕ) (ys src : List ℕ) → e ≡ a + length src → e ≤ length d → ys ≡ copied (midOf a (e - a) d) src → putMid a (e - a) d ys ≡ laid d a src
+laid-copied d a e ys src q h y =
+    let n : length (midOf a (e - a) d) ≡ e - a = mid-len a e d h in
+    let l : length (midOf a (e - a) d) ≤ length src = omega arith in
+    let z : drop (length src) (midOf a (e - a) d) ≡ [] = drop-of-length-le (midOf a (e - a) d) l in
+    let s : ys ≡ src = y ∙ copied-fits (midOf a (e - a) d) src (omega arith) ∙ ap (λ (l : List ℕ). src ++ l) z ∙ append-nil src in
+    ap (λ (l : List ℕ). take a d ++ (l ++ drop (e - a) (drop a d))) s
+    ∙ ap (λ (l : List ℕ). take a d ++ (src ++ l)) (post-is a e d (omega arith) ∙ ap (λ (k : ℕ). drop k d) q)

@@ -1,23 +1,20 @@
 -- Option 52 of an accepted message: it stands once, with one data byte. Assumes nothing.
-use mathlib.Core.Path.{_≡_, refl, sym, ap, _∙_, subst}
+use mathlib.Core.Path.{_≡_, refl, sym, _∙_, subst}
 use mathlib.Core.Bool.{Bool, true, false, cond}
 use mathlib.Core.List.{List, [], _∷_}
-use mathlib.Core.Logic.{_⊎_, inl, inr}
-use Prim.Native.Nat.{ℕ, suc, _+_}
+use mathlib.Core.Logic.{inl, inr}
+use Prim.Native.Nat.{ℕ, _+_}
 use native.Mathlib.Nat.{zero-add}
 use native.Mathlib.Omega.{arith}
 use lib.Dec.{eqb}
 use lib.ListN.{length, getD}
-use borrow.Author.Tests.{eq-eqb, ne-eqb, eqb-true, eqb-false}
-use Rattle.options.specs.Message.{Field, options, file, sname, start, bytes, turn, Active, Stands, Rec, Opt}
-use Rattle.options.specs.Reading.{Reading, accepted, items, readMessage}
+use borrow.Author.Tests.{ne-eqb, eqb-true}
+use Rattle.options.specs.Message.{Field, options, file, sname, start, bytes, Stands, Opt}
+use Rattle.options.specs.Reading.{accepted, items, overload, readMessage}
 use Rattle.options.specs.Refusals.{Wrong52, in-file, in-sname, length-not-1, value-not-1-to-3, within, Row, row-6}
 use Rattle.options.specs.ReadingClaims.{In, Precedes}
 use Rattle.theorems.proofs.Fields.{not-one}
 use Rattle.theorems.proofs.Reading.{no-row-of, listed-stands}
-use Rattle.wire.specs.Walk.{noted}
-use Rattle.wire.specs.Walk.{State}
-use Rattle.message.specs.Scan.{keptAll}
 use Rattle.records.specs.Fill.{room52}
 use Rattle.records.proofs.Rooms.{rooms52}
 
@@ -47,26 +44,17 @@ unfolding rooms52 items
 none-52 [] f = refl
 none-52 (o ∷ os) f = rw (ne-eqb (o .item .tag) 52 (f o (inl refl))) (omega (arith, none-52 os (λ q i. f q (inr i))))
 
-over-stays : (want : ℕ) (s : State) (os : List Opt) → ((o : Opt) → In o os → o .item .tag ≡ 52 → ⊥) → keptAll want s os .over ≡ s .over
-unfolding keptAll
-over-stays want s [] f = refl
-over-stays want s (o ∷ os) f =
-    over-stays want (noted (turn (o .field)) want s (o .offset) (o .item)) os (λ q i. f q (inr i)) ∙ rw (ne-eqb (o .item .tag) 52 (f o (inl refl)))
-
--- what option 52 takes as a record, by the value that a walk keeps
-pub rooms-is : (want : ℕ) (s : State) (os : List Opt) → s .over ≡ 0 → ((o : Opt) → In o os → o .item .tag ≡ 52 → OneByte (o .item .body))
-    → ((o q : Opt) → Precedes o q os → o .item .tag ≡ q .item .tag → ⊥) → rooms52 (items os) ≡ room52 (keptAll want s os .over)
-unfolding rooms52 items keptAll
-rooms-is want s [] z f g = rw z
-rooms-is want s (o ∷ os) z f g =
-    go (eqb (o .item .tag) 52) refl
-    (λ e. rooms-is want (noted (turn (o .field)) want s (o .offset) (o .item)) os (rw e z) (λ q i. f q (inr i)) (λ p q i. g p q (inr i)))
+-- what option 52 takes as a record, by its value
+pub rooms-is : (os : List Opt) → ((o : Opt) → In o os → o .item .tag ≡ 52 → OneByte (o .item .body)) → ((o q : Opt) → Precedes o q os → o .item .tag ≡ q .item .tag → ⊥)
+    → rooms52 (items os) ≡ room52 (overload (items os))
+unfolding rooms52 items overload
+rooms-is [] f g = refl
+rooms-is (o ∷ os) f g = go (eqb (o .item .tag) 52) refl (rooms-is os (λ q i. f q (inr i)) (λ p q i. g p q (inr i)))
   where
-    go : (t : Bool) → eqb (o .item .tag) 52 ≡ t
-        → (eqb (o .item .tag) 52 ≡ false → rooms52 (items os) ≡ room52 (keptAll want (noted (turn (o .field)) want s (o .offset) (o .item)) os .over))
-        → cond t (length (o .item .body) + 3) 0 + rooms52 (items os) ≡ room52 (keptAll want (noted (turn (o .field)) want s (o .offset) (o .item)) os .over)
+    go : (t : Bool) → eqb (o .item .tag) 52 ≡ t → rooms52 (items os) ≡ room52 (overload (items os))
+        → cond t (length (o .item .body) + 3) 0 + rooms52 (items os) ≡ room52 (cond t (getD (o .item .body) 0 0) (overload (items os)))
     go true e ih =
         let b = f o (inl refl) (eqb-true (o .item .tag) 52 e) in
         let n : (q : Opt) → In q os → q .item .tag ≡ 52 → ⊥ = λ q i y. g o q (inl (refl, i)) (eqb-true (o .item .tag) 52 e ∙ sym y) in
-        rw (over-stays want (noted (turn (o .field)) want s (o .offset) (o .item)) os n, e, eq-eqb (s .over) 0 z, b .not-zero) (omega (arith, b .one, none-52 os n))
-    go false e ih = zero-add (rooms52 (items os)) ∙ ih e
+        rw (b .not-zero) (omega (arith, b .one, none-52 os n))
+    go false e ih = zero-add (rooms52 (items os)) ∙ ih

@@ -6,16 +6,12 @@ use Prim.Native.Nat.{ℕ, suc, _+_, _/_, _%_, _<_}
 use native.Mathlib.Omega.{arith}
 use lib.Dec.{eqb}
 use lib.ListN.{length, length-append}
-use borrow.Author.Tests.{eq-eqb, ne-eqb}
 use Rattle.options.specs.Message.{Field, options, file, sname, bytes, Rec, Opt}
 use Rattle.options.specs.Reading.{Parse, ended, ranOut, beyond, found, parse, items, fileIn, snameIn}
 use Rattle.options.specs.Answers.{recordBytes, but52}
-use Rattle.theorems.proofs.View.{clash}
-use Rattle.wire.specs.Ahead.{nextOf}
-use Rattle.wire.specs.declared.Spot.the-variants.{Stop}
 use Rattle.message.specs.Scan.{usedBy}
 use Rattle.message.specs.Fields.{optionsIn, onlyIf, fieldOptions, activeOptions}
-use Rattle.records.specs.Fill.{itemsIn, bytesIn, fieldBytes, activeBytes}
+use Rattle.records.specs.Fill.{shortRecord, optionRecord, itemsIn, bytesIn, fieldBytes, activeBytes}
 
 -- what options 52 would take as records
 unfoldable pub rooms52 : List Rec → ℕ
@@ -81,21 +77,13 @@ active-bytes v m =
 
 -- ---- one option of a field
 
-pub stop-bytes : (p : Parse) → nextOf p ≡ Stop → bytesIn p ≡ []
+pub option-record : (i : ℕ) (x : Rec) (p : Parse) → length (x .body) < 256 → bytesIn (found i x p) ≡ optionRecord (x .tag) (x .body) ++ bytesIn p
 unfolding bytesIn itemsIn but52 recordBytes
-stop-bytes ended e = refl
-stop-bytes (ranOut i) e = refl
-stop-bytes (beyond i) e = refl
-stop-bytes (found i x p) e = clash (cc)
-
-module _ (i : ℕ) (x : Rec) (p q : Parse) (e : p ≡ found i x q) where
-  pub skip-bytes : x .tag ≡ 52 → bytesIn p ≡ bytesIn q
-  unfolding bytesIn itemsIn but52
-  skip-bytes z = rw (e, eq-eqb (x .tag) 52 z)
-
-  pub put-bytes : (x .tag ≡ 52 → ⊥) → length (x .body) < 256 → bytesIn p ≡ (x .tag ∷ 0 ∷ length (x .body) ∷ x .body) ++ bytesIn q
-  unfolding bytesIn itemsIn but52 recordBytes
-  put-bytes z h =
-      let a : length (x .body) / 256 ≡ 0 = omega arith in
-      let b : length (x .body) % 256 ≡ length (x .body) = omega arith in
-      rw (e, ne-eqb (x .tag) 52 z, a, b)
+option-record i x p h = go (eqb (x .tag) 52)
+  where
+    go : (t : Bool) → recordBytes (cond t (but52 (itemsIn p)) (x ∷ but52 (itemsIn p))) ≡ cond t [] (shortRecord (x .tag) (x .body)) ++ recordBytes (but52 (itemsIn p))
+    go true = refl
+    go false =
+        let a : length (x .body) / 256 ≡ 0 = omega arith in
+        let b : length (x .body) % 256 ≡ length (x .body) = omega arith in
+        rw (a, b)

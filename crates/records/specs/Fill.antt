@@ -1,6 +1,6 @@
 -- The records of a message in a lent buffer: the answer case by case, and what each function lays into the buffer. Assumes nothing.
 use mathlib.Core.Path.{_≡_}
-use mathlib.Core.Bool.{Bool, true, cond}
+use mathlib.Core.Bool.{Bool, true, false, cond}
 use mathlib.Core.List.{List, [], _∷_, _++_}
 use Prim.Native.Nat.{ℕ, _+_}
 use lib.Dec.{eqb}
@@ -30,6 +30,32 @@ laid old at xs = take at old ++ (xs ++ drop (at + length xs) old)
 pub record Placed (old : List ℕ) (at : ℕ) (xs : List ℕ) (r : ℕ) (after : List ℕ) : Type 0 where
   pub next : r ≡ at + length xs
   pub buffer : after ≡ laid old at xs
+
+-- a record whose data has fewer than 256 bytes: the length's high byte is 0
+abbrev pub shortRecord : ℕ → List ℕ → List ℕ
+shortRecord c d = c ∷ 0 ∷ length d ∷ d
+
+-- what is laid of such an option: 52 is no record
+abbrev pub optionRecord : ℕ → List ℕ → List ℕ
+optionRecord c d = cond (eqb c 52) [] (shortRecord c d)
+
+-- the walk of a field comes to END
+unfoldable pub hasEnd : Parse → Bool
+hasEnd ended = true
+hasEnd (ranOut i) = false
+hasEnd (beyond i) = false
+hasEnd (found i x rest) = hasEnd rest
+
+-- a field has its END, where it is active
+unfoldable pub fieldEnds : Bool → List ℕ → Bool
+unfolding hasEnd parse
+fieldEnds on f = cond on (hasEnd (parse 0 0 f)) true
+
+-- so has every active field of a message, by the value v of its option 52
+pub record ActiveEnds (v : ℕ) (m : List ℕ) : Type 0 where
+  pub of-options : fieldEnds true (bytes options m) ≡ true
+  pub of-file : fieldEnds (fileIn v) (bytes file m) ≡ true
+  pub of-sname : fieldEnds (snameIn v) (bytes sname m) ≡ true
 
 -- the options that are found in a field, wherever its walk ends
 unfoldable pub itemsIn : Parse → List Rec

@@ -1,13 +1,11 @@
 // The records of a message (document 01, What is asked of a message): every option but 52 in reading order, written to a lent buffer.
 ghost use mathlib.Core.Path.{_≡_};
 ghost use mathlib.Core.Bool.{true};
-ghost use mathlib.Core.List.{_∷_};
 ghost use Prim.Native.Nat.{_+_, _<_, _≤_, _^_};
 ghost use lib.Dec.{ltb};
 ghost use lib.ListN.{length};
 ghost use Rattle.options.specs.Answers as answers;
-ghost use Rattle.records.specs.Fill.{Fills, laid, Placed, fieldBytes, activeBytes, room52};
-use wire::Spot;
+ghost use Rattle.records.specs.Fill.{Fills, laid, Placed, shortRecord, optionRecord, fieldEnds, fieldBytes, ActiveEnds, activeBytes, room52};
 
 // What is given (document 01, What is asked of a message; Numbers given on refusal): how many bytes of the buffer the records take, or a refusal.
 pub enum Given {
@@ -15,46 +13,65 @@ pub enum Given {
     Refused { number: u32, place: usize },
 }
 
+fn wide(x: u8) -> usize
+    ensures { λ r. ⌜ (r ≡ x) × (r < 256) ⌝ }
+{
+    x as usize
+}
+
 // Lays one record over out from at on. Data of an option has fewer than 256 bytes, so the length's high byte is 0.
+// The part lent to `copy` is as long as body: so the compiler sees that the data fits, and drops its test.
 fn put_record(out: &mut [u8], at: usize, code: u8, body: &[u8])
     requires { ⌜ (at + 3 + length (now body) ≤ length (now out)) × (length (now body) < 256) ⌝ }
-    ensures { λ _. ⌜ now (out .exit) ≡ laid (now (out .entry)) at (code ∷ 0 ∷ length (now (body .entry)) ∷ now (body .entry)) ⌝ }
+    ensures { λ _. ⌜ now (out .exit) ≡ laid (now (out .entry)) at (shortRecord code (now (body .entry))) ⌝ }
 {
     out[at] = code;
     out[at + 1] = 0;
     out[at + 2] = body.len() as u8;
-    buffer::copy(&mut out[at + 3..], body);
+    let a = at + 3;
+    let e = a + body.len();
+    buffer::copy(&mut out[a..e], body);
 }
 
-// Lays the records of a field's options over out from at on, and gives the place after them.
+// The same for an option that may be 52, which is no record. Gives the place after what is laid.
+fn put_option(out: &mut [u8], at: usize, code: u8, body: &[u8]) -> usize
+    requires { ⌜ (at + length (optionRecord code (now body)) ≤ length (now out)) × (length (now body) < 256) ⌝ }
+    ensures { λ r. ⌜ Placed (now (out .entry)) at (optionRecord code (now (body .entry))) r (now (out .exit)) ⌝ }
+{
+    if code == 52 {
+        return at;
+    }
+    put_record(out, at, code, body);
+    at + 3 + body.len()
+}
+
+// Lays the records of a field's options over out from at on, and gives the place after them. The field has its END, which the walk that judged it
+// has found: so every item is within the field, and that is not tested again.
 fn put_field(f: &[u8], out: &mut [u8], at: usize) -> usize
-    requires { ⌜ at + length (fieldBytes true (now f)) ≤ length (now out) ⌝ }
+    requires { ⌜ (fieldEnds true (now f) ≡ true) × (at + length (fieldBytes true (now f)) ≤ length (now out)) ⌝ }
     ensures { λ r. ⌜ Placed (now (out .entry)) at (fieldBytes true (now (f .entry))) r (now (out .exit)) ⌝ }
 {
     let mut o = at;
     let mut i: usize = 0;
-    while i < f.len() {
-        match wire::next_option(f, i) {
-            Spot::Stop => {
-                return o;
-            }
-            Spot::Item { offset, code, len } => {
-                let a = offset + 2;
-                let e = a + len;
-                if code != 52 {
-                    put_record(out, o, code, &f[a..e]);
-                    o = o + 3 + len;
-                }
-                i = e;
-            }
+    loop {
+        let c = f[i];
+        if c == 255 {
+            return o;
+        }
+        if c == 0 {
+            i = i + 1;
+        } else {
+            let j = i + 2;
+            let e = j + wide(f[i + 1]);
+            o = put_option(out, o, c, &f[j..e]);
+            i = e;
         }
     }
-    o
 }
 
 // The same for a field that may be inactive.
 fn put_if(on: bool, f: &[u8], out: &mut [u8], at: usize) -> usize
-    requires { ⌜ at + length (fieldBytes on (now f)) ≤ length (now out) ⌝ }
+    requires { ⌜ (fieldEnds on (now f) ≡ true) × (at + length (fieldBytes on (now f)) ≤ length (now out)) ⌝ }
     ensures { λ r. ⌜ Placed (now (out .entry)) at (fieldBytes on (now (f .entry))) r (now (out .exit)) ⌝ }
 {
     if !on {
@@ -65,7 +82,7 @@ fn put_if(on: bool, f: &[u8], out: &mut [u8], at: usize) -> usize
 
 // Lays the records of every active field over out from its start on, in reading order; v is the value of option 52.
 fn put_active(m: &[u8], v: u32, out: &mut [u8]) -> usize
-    requires { ⌜ (240 ≤ length (now m)) × (length (activeBytes v (now m)) ≤ length (now out)) ⌝ }
+    requires { ⌜ (240 ≤ length (now m)) × ActiveEnds v (now m) × (length (activeBytes v (now m)) ≤ length (now out)) ⌝ }
     ensures { λ r. ⌜ Placed (now (out .entry)) 0 (activeBytes v (now (m .entry))) r (now (out .exit)) ⌝ }
 {
     let a = put_field(&m[240..], out, 0);
@@ -103,14 +120,14 @@ fn too_small(n: usize, used: usize, count: u32, over: u32) -> bool
 pub fn records(m: &[u8], out: &mut [u8]) -> Given
     ensures { λ r. ⌜ Fills (answers.records (now (m .entry)) (now (out .entry))) r (now (out .exit)) ⌝ }
 {
-    let w = message::scan(m, 0);
+    let mut seen = [0; 4];
+    let w = message::scan(m, 0, &mut seen);
     if w.number != 0 {
         return Given::Refused {
             number: w.number,
             place: w.place,
         };
     }
-    let seen = w.seen;
     let v = w.over;
     let n = out.len();
     if too_small(n, w.used, codeset::count(seen), v) {

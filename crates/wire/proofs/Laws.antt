@@ -2,20 +2,21 @@
 use mathlib.Core.Path.{_≡_, refl, sym, ap, _∙_}
 use mathlib.Core.Bool.{Bool, true, false, cond, not}
 use mathlib.Core.List.{List, [], _∷_}
-use Prim.Native.Nat.{ℕ, zero, suc, _+_, _-_, _≤_, _<_}
+use Prim.Native.Nat.{ℕ, zero, suc, _+_, _-_, _*_, _/_, _%_, _^_, _≤_, _<_}
 use native.Mathlib.Nat.{le-of-suc-le-suc, not-suc-le-zero}
 use native.Mathlib.Omega.{arith}
+use native.Mathlib.Decide.{ℕ-discrete, decLt}
+use lib.Bits.{bitOr}
 use lib.Dec.{eqb, ltb, leb}
 use lib.ListN.{length, getD, take, drop, length-drop, drop-of-length-le}
 use lib.Seq.{drop-cons, drop-drop, length-take-le, getD-take, getD-drop}
 use borrow.Author.Tests.{eq-eqb, ne-eqb, eqb-false, lt-ltb, le-ltb}
-use Rattle.options.specs.Message.{Field, start, turn, Rec}
+use Rattle.options.specs.Message.{Rec}
 use Rattle.options.specs.Reading.{Parse, ended, ranOut, beyond, found, right52, parse}
-use Rattle.wire.specs.Walk.{itemAt, overWrong, walkedOf, stopAt, stopped, sizeOf, hitAfter, atAfter, hitAt, noted, walkOf, walkField, Walks}
+use Rattle.wire.specs.Walk.{itemAt, overWrong, startAfter, stop, noted, walkOf, begin, walkField, whyAt}
 use Rattle.wire.specs.Walk.{State}
-use Rattle.wire.specs.declared.Walked as flat
-use Rattle.wire.specs.Walk.{Hit}
 use Rattle.options.specs.CodeSet.{marked}
+use Rattle.codeset.proofs.Words.{one-shl, or-marked, or-unmarked}
 
 -- passing n bytes of data
 pub parse-skip : (n : ℕ) (ys : List ℕ) (at : ℕ) → n ≤ length ys → parse at n ys ≡ parse (at + n) 0 (drop n ys)
@@ -106,12 +107,21 @@ body-length f i n h = length-take-le n (drop (i + 2) f) (rw length-drop (omega a
 pub body-one : (f : List ℕ) (i : ℕ) → i + 2 < length f → take 1 (drop (i + 2) f) ≡ getD f (i + 2) 0 ∷ []
 body-one f i h = rw (drop-cons f (i + 2) 0 h)
 
-pub wrong-length : (t n : ℕ) (f : List ℕ) (i : ℕ) → t ≡ 1 → (n ≡ 1 → ⊥) → i + 2 + n ≤ length f → true ≡ overWrong t (itemAt 52 n f i)
-wrong-length t n f i e h l = rw (e, right-length (take n (drop (i + 2) f)) (λ q. h (sym (body-length f i n l) ∙ q)))
+pub wrong-length : (n : ℕ) (f : List ℕ) (i : ℕ) → (n ≡ 1 → ⊥) → i + 2 + n ≤ length f → true ≡ overWrong true (itemAt 52 n f i)
+wrong-length n f i h l = rw (right-length (take n (drop (i + 2) f)) (λ q. h (sym (body-length f i n l) ∙ q)))
 
-pub wrong-one : (t n : ℕ) (f : List ℕ) (i : ℕ) → t ≡ 1 → n ≡ 1 → i + 2 < length f
-    → overWrong t (itemAt 52 n f i) ≡ not (cond (eqb (getD f (i + 2) 0) 0) false (leb (getD f (i + 2) 0) 3))
-wrong-one t n f i e q h = rw (e, q, body-one f i h)
+pub wrong-one : (n : ℕ) (f : List ℕ) (i : ℕ) → n ≡ 1 → i + 2 < length f
+    → overWrong true (itemAt 52 n f i) ≡ not (cond (eqb (getD f (i + 2) 0) 0) false (leb (getD f (i + 2) 0) 3))
+wrong-one n f i q h = rw (q, body-one f i h)
+
+-- an option 52 that is not refused has data
+pub right-some : (main : Bool) (n : ℕ) (f : List ℕ) (i : ℕ) → overWrong main (itemAt 52 n f i) ≡ false → 0 < n
+right-some main zero f i e = absurd (go main e)
+  where
+    go : (b : Bool) → cond b true true ≡ false → ⊥
+    go true z = let y : _≡_ {A = ℕ} 0 1 = cc in omega arith
+    go false z = let y : _≡_ {A = ℕ} 0 1 = cc in omega arith
+right-some main (suc n) f i e = omega arith
 
 -- the first data byte
 pub body-first : (f : List ℕ) (i n : ℕ) → 0 < n → getD (take n (drop (i + 2) f)) 0 0 ≡ getD f (i + 2) 0
@@ -119,41 +129,90 @@ body-first f i n h = let z : i + 2 + 0 ≡ i + 2 = omega arith in rw (getD-take,
 
 -- ---- one turn of the walk
 
-module _ (first t want : ℕ) (s : State) (z i : ℕ) (x : Rec) (p : Parse) where
-  pub walk-wrong : overWrong t x ≡ true → walkOf first t want s z (found i x p) ≡ stopped 6 (first + i)
+module _ (main : Bool) (want : ℕ) (s : State) (i : ℕ) (x : Rec) (p : Parse) where
+  pub walk-wrong : overWrong main x ≡ true → walkOf main want s (found i x p) ≡ stop s 6 i
   unfolding walkOf
   walk-wrong e = rw e
 
-  pub walk-again : overWrong t x ≡ false → marked (s .seen) (x .tag) ≡ true → walkOf first t want s z (found i x p) ≡ stopped 7 (first + i)
+  pub walk-again : overWrong main x ≡ false → marked (s .seen) (x .tag) ≡ true → walkOf main want s (found i x p) ≡ stop s 7 i
   unfolding walkOf
   walk-again e m = rw (e, m)
 
-  pub walk-next : overWrong t x ≡ false → marked (s .seen) (x .tag) ≡ false
-      → walkOf first t want s z (found i x p) ≡ walkOf first t want (noted t want s i x) (z + sizeOf x) p
+  pub walk-next : overWrong main x ≡ false → marked (s .seen) (x .tag) ≡ false → walkOf main want s (found i x p) ≡ walkOf main want (noted want s i x) p
   unfolding walkOf
   walk-next e m = rw (e, m)
 
--- ---- the end of the walk: what it gives is the field's, whose first byte and turn it was told
+-- ---- the test of the set
 
-module _ (fd : Field) (first t want : ℕ) (st : State) (f : List ℕ) (w : flat.Walked) (e : first ≡ start fd) (q : t ≡ turn fd) where
-  pub walk-ends : walkedOf w ≡ walkOf first t want st 0 (rest f 0) → w .used ≤ length f → (w .number ≡ 0 → w .place ≡ 0) → Walks f (walkField fd want st f) w
-  unfolding walkField
-  walk-ends h l z = record { is = rw (← e, ← q) h; within = l; no-place = z }
+pub not-both : (b : Bool) → b ≡ true → b ≡ false → ⊥
+not-both b t f = let z : true ≡ false = sym t ∙ f in let y : _≡_ {A = ℕ} 0 1 = cc in omega arith
 
-  pub walk-stops : (n p : ℕ) → w ≡ stopAt n p → eqb n 0 ≡ false → stopped n p ≡ walkOf first t want st 0 (rest f 0) → Walks f (walkField fd want st f) w
-  walk-stops n p h z k =
-      let s : walkedOf (stopAt n p) ≡ stopped n p = rw z in
-      walk-ends (ap walkedOf h ∙ s ∙ k) (let y : w .used ≡ 0 = ap (λ (x : flat.Walked). x .used) h in omega arith)
-      (λ y. absurd (eqb-false n 0 z (ap (λ (x : flat.Walked). x .number) (sym h) ∙ y)))
+-- setting the digit of c in its word k changes nothing exactly where c is in the set
+module _ (seen : List ℕ) (c k : ℕ) (e : k ≡ c / 64) where
+  pub met-is : bitOr (getD seen k 0) ((1 * 2 ^ (c % 64)) % 2 ^ 64) ≡ getD seen k 0 → marked seen c ≡ true
+  met-is h = or-marked (getD seen (c / 64) 0) (c % 64) (rw (← one-shl (c % 64) (omega arith), ← e) h)
 
--- ---- the wanted code, kept as an offset
+  pub new-is : (bitOr (getD seen k 0) ((1 * 2 ^ (c % 64)) % 2 ^ 64) ≡ getD seen k 0 → ⊥) → marked seen c ≡ false
+  new-is h = or-unmarked (getD seen (c / 64) 0) (c % 64) (λ q. h (rw (one-shl (c % 64) (omega arith), e) q))
 
-pub hit-none : (f : List ℕ) (t : ℕ) (h : Hit) → hitAt f t h (length f) ≡ h
-hit-none f t h = rw (le-ltb (length f) (length f) (omega arith))
+pub other-code : (seen : List ℕ) (c d : ℕ) → marked seen c ≡ false → marked seen d ≡ true → c ≡ d → ⊥
+other-code seen c d u m e = not-both (marked seen c) (ap (marked seen) e ∙ m) u
 
-pub hit-next : (f : List ℕ) (t : ℕ) (h : Hit) (want c i at : ℕ) → i < length f → hitAt f t h (atAfter want c i at) ≡ hitAfter want (hitAt f t h at) t i c (getD f (i + 1) 0)
-hit-next f t h want c i at l = go (eqb want c)
+-- ---- where a walk ends
+
+-- no pad stands at i, and the walk that has come there ends
+pub record EndsAt (main : Bool) (want : ℕ) (s : State) (f : List ℕ) (i : ℕ) : Type 0 where
+  pub no-pad : i < length f → getD f i 0 ≡ 0 → ⊥
+  pub is : walkOf main want s (rest f i) ≡ stop s (whyAt main (rest f i)) (cond (eqb (whyAt main (rest f i)) 0) 0 i)
+
+module _ (main : Bool) (want : ℕ) (s : State) (f : List ℕ) (i : ℕ) where
+  abbrev item : Rec
+  item = itemAt (getD f i 0) (getD f (i + 1) 0) f i
+
+  pub ends-none : length f ≤ i → EndsAt main want s f i
+  unfolding walkOf
+  ends-none h = record { no-pad = λ l z. omega arith; is = rw (rest-none f i h) refl }
+
+  -- an option that may stand was met before
+  stops-found : (p : Parse) → (overWrong main item ≡ false → marked (s .seen) (getD f i 0) ≡ true)
+      → walkOf main want s (found i item p) ≡ stop s (whyAt main (found i item p)) (cond (eqb (whyAt main (found i item p)) 0) 0 i)
+  stops-found p m = go (overWrong main item) refl
+    where
+      go : (b : Bool) → overWrong main item ≡ b → walkOf main want s (found i item p) ≡ stop s (cond b 6 7) (cond (eqb (cond b 6 7) 0) 0 i)
+      go true e = walk-wrong main want s i item p e
+      go false e = walk-again main want s i item p e (m e)
+
+  -- what stands at i is no pad and, unless it is END or runs past the field, is refused
+  pub ends-here : i < length f → (getD f i 0 ≡ 0 → ⊥)
+      → ((getD f i 0 ≡ 255 → ⊥) → i + 2 + getD f (i + 1) 0 ≤ length f → overWrong main item ≡ false → marked (s .seen) (getD f i 0) ≡ true) → EndsAt main want s f i
+  unfolding walkOf
+  ends-here h z m = record { no-pad = λ l. z; is = at-byte (ℕ-discrete (getD f i 0) 255) (decLt (i + 1) (length f)) (decLt (length f) (i + 2 + getD f (i + 1) 0)) }
+    where
+      at-byte : Dec (getD f i 0 ≡ 255) → Dec (i + 1 < length f) → Dec (length f < i + 2 + getD f (i + 1) 0)
+          → walkOf main want s (rest f i) ≡ stop s (whyAt main (rest f i)) (cond (eqb (whyAt main (rest f i)) 0) 0 i)
+      at-byte (yes e) a b = rw (rest-end f i h e) refl
+      at-byte (no e) (no a) b = rw (rest-last f i h z e (omega arith)) refl
+      at-byte (no e) (yes a) (yes b) = rw (rest-long f i h z e a b) refl
+      at-byte (no e) (yes a) (no b) =
+          let l : i + 2 + getD f (i + 1) 0 ≤ length f = omega arith in
+          rw (rest-found f i h z e a l) (stops-found (rest f (i + 2 + getD f (i + 1) 0)) (m e l))
+
+-- the walk that has come to i, and ends there, is the field's
+pub walk-done : (main : Bool) (want : ℕ) (w f : List ℕ) (s : State) (i : ℕ) → EndsAt main want s f i → walkOf main want s (rest f i) ≡ walkOf main want (begin w) (rest f 0)
+    → walkField main want w f ≡ stop s (whyAt main (rest f i)) (cond (eqb (whyAt main (rest f i)) 0) 0 i)
+unfolding walkField
+walk-done main want w f s i e h = sym h ∙ e .is
+
+pub start-within : (want c j start l : ℕ) → j ≤ l → start ≤ l → startAfter want c j start ≤ l
+start-within want c j start l h k = go (eqb want c)
   where
-    go : (b : Bool) → hitAt f t h (cond b i at) ≡ cond b (record { field = t; offset = i; len = getD f (i + 1) 0 }) (hitAt f t h at)
-    go true = rw (lt-ltb i (length f) l)
-    go false = refl
+    go : (b : Bool) → cond b j start ≤ l
+    go true = h
+    go false = k
+
+pub end-place : (n i l : ℕ) → i ≤ l → cond (eqb n 0) 0 i ≤ l
+end-place n i l h = go (eqb n 0)
+  where
+    go : (b : Bool) → cond b 0 i ≤ l
+    go true = omega arith
+    go false = h

@@ -1,11 +1,11 @@
--- The walk over code sets of four words: the twin of `judge` that the code follows. Crate message ties it to `readMessage`. Assumes nothing.
+-- The walk of one field over a code set of four words: the twin of `judge` that the code follows. Crate message ties it to `readMessage`. Assumes nothing.
 use mathlib.Core.Path.{_≡_}
 use mathlib.Core.Bool.{Bool, true, false, cond, not}
 use mathlib.Core.List.{List, []}
-use Prim.Native.Nat.{ℕ, _+_, _≤_}
-use lib.Dec.{eqb, ltb}
-use lib.ListN.{length, getD, take, drop, replicate}
-use Rattle.options.specs.Message.{options, file, sname, start, turn, Rec}
+use Prim.Native.Nat.{ℕ, _+_, _-_, _≤_}
+use lib.Dec.{eqb}
+use lib.ListN.{length, getD, take, drop}
+use Rattle.options.specs.Message.{options, file, sname, Rec}
 use Rattle.options.specs.Message as message
 use Rattle.options.specs.Reading.{Parse, ended, ranOut, beyond, found, parse, right52}
 use Rattle.options.specs.CodeSet.{marked, withMark}
@@ -19,103 +19,94 @@ fieldOf Options = options
 fieldOf File = file
 fieldOf Sname = sname
 
--- where the wanted code stands: the turn of its field (0: not met), its offset there and the length of its data
-pub record Hit : Type 0 where
-  pub field : ℕ
-  pub offset : ℕ
-  pub len : ℕ
+-- 0 and 255, a pad and END, are no codes; a walk marks them in its set of codes
+abbrev pub withEnds : List ℕ → List ℕ
+withEnds w = withMark (withMark w 0) 255
 
--- what is kept of the options met: the set of their codes, the wanted one, and the value of option 52 (0: not met)
+-- what is kept of the options met: the set of their codes; where the data of the wanted one start in the field (0: not met); the value of option 52
+-- (0: not met); and how many bytes they take
 pub record State : Type 0 where
   pub seen : List ℕ
-  pub hit : Hit
+  pub start : ℕ
   pub over : ℕ
-
--- how a walk ended: with END, or with a refusal's number and place in the message
-pub data End : Type 0 where
-  Closed : End
-  Fault : (number place : ℕ) → End
-
-pub record Walked : Type 0 where
-  pub state : State
   pub used : ℕ
-  pub end : End
 
--- what the code's flat struct says; number 0 is no refusal
-abbrev pub endOf : ℕ → ℕ → End
-endOf n p = cond (eqb n 0) Closed (Fault n p)
+-- what was kept when the walk ended; number 0: with END, else number and offset of the refusal
+pub record Walk : Type 0 where
+  pub state : State
+  pub number : ℕ
+  pub place : ℕ
 
-abbrev pub hitOf : flat.Walked → Hit
-hitOf r = record { field = r .field; offset = r .offset; len = r .len }
-
-abbrev pub walkedOf : flat.Walked → Walked
-walkedOf r = record { state = record { seen = r .seen; hit = hitOf r; over = r .over }; used = r .used; end = endOf (r .number) (r .place) }
-
-abbrev pub stopAt : ℕ → ℕ → flat.Walked
-stopAt n p = record { seen = replicate 4 0; offset = 0; used = 0; place = p; field = 0; len = 0; over = 0; number = n }
-
-abbrev pub noHit : Hit
-noHit = record { field = 0; offset = 0; len = 0 }
-
-abbrev pub noState : State
-noState = record { seen = replicate 4 0; hit = noHit; over = 0 }
-
-abbrev pub stopped : ℕ → ℕ → Walked
-stopped n p = record { state = noState; used = 0; end = Fault n p }
-
--- the option with the wanted code
-abbrev pub hitAfter : ℕ → Hit → ℕ → ℕ → ℕ → ℕ → Hit
-hitAfter want h t i c n = cond (eqb want c) (record { field = t; offset = i; len = n }) h
-
--- the same, kept as the offset of its code byte in the field f; past the field: not met there
-abbrev pub atAfter : ℕ → ℕ → ℕ → ℕ → ℕ
-atAfter want c i at = cond (eqb want c) i at
-
-abbrev pub hitAt : List ℕ → ℕ → Hit → ℕ → Hit
-hitAt f t h at = cond (ltb at (length f)) (record { field = t; offset = at; len = getD f (at + 1) 0 }) h
+abbrev pub stop : State → ℕ → ℕ → Walk
+stop s n i = record { state = s; number = n; place = i }
 
 -- the option with code c and n data bytes, at offset i
 abbrev pub itemAt : ℕ → ℕ → List ℕ → ℕ → Rec
 itemAt c n f i = record { tag = c; body = take n (drop (i + 2) f) }
 
--- 6: an option 52 that is refused in the field with turn t
-abbrev pub overWrong : ℕ → Rec → Bool
-overWrong t x = cond (eqb (x .tag) 52) (cond (eqb t 1) (not (right52 (x .body))) true) false
-
-abbrev pub closedAt : List ℕ → ℕ → ℕ → Hit → List ℕ → ℕ → ℕ → Walked
-closedAt f t at h seen over used = record { state = record { seen = seen; hit = hitAt f t h at; over = over }; used = used; end = Closed }
+-- 6: an option 52 that is refused, in the options field or in another
+abbrev pub overWrong : Bool → Rec → Bool
+overWrong main x = cond (eqb (x .tag) 52) (cond main (not (right52 (x .body))) true) false
 
 -- the value of option 52, the first that stands
 abbrev pub overAfter : ℕ → Rec → ℕ
 overAfter over x = cond (eqb (x .tag) 52) (cond (eqb over 0) (getD (x .body) 0 0) over) over
 
+-- where the data of the wanted code start, after an option with code c whose data start at j
+abbrev pub startAfter : ℕ → ℕ → ℕ → ℕ → ℕ
+startAfter want c j start = cond (eqb want c) j start
+
 -- "One option takes 2 bytes more than its data"
 abbrev pub sizeOf : Rec → ℕ
 sizeOf x = 2 + length (x .body)
 
-abbrev pub noted : ℕ → ℕ → State → ℕ → Rec → State
-noted t want s i x =
+abbrev pub noted : ℕ → State → ℕ → Rec → State
+noted want s i x =
     record {
       seen = withMark (s .seen) (x .tag);
-      hit = hitAfter want (s .hit) t i (x .tag) (length (x .body));
+      start = startAfter want (x .tag) (i + 2) (s .start);
       over = overAfter (s .over) x;
+      used = s .used + sizeOf x;
     }
 
--- `first` is the place of the field's first byte, t its turn
-unfoldable pub walkOf : ℕ → ℕ → ℕ → State → ℕ → Parse → Walked
-walkOf first t want s z ended = record { state = s; used = z; end = Closed }
-walkOf first t want s z (ranOut i) = stopped 5 (first + i)
-walkOf first t want s z (beyond i) = stopped 4 (first + i)
-walkOf first t want s z (found i x rest) =
-    let next : Walked = walkOf first t want (noted t want s i x) (z + sizeOf x) rest in
-    cond (overWrong t x) (stopped 6 (first + i)) (cond (marked (s .seen) (x .tag)) (stopped 7 (first + i)) next)
+-- in the options field, or in another
+unfoldable pub walkOf : Bool → ℕ → State → Parse → Walk
+walkOf main want s ended = stop s 0 0
+walkOf main want s (ranOut i) = stop s 5 i
+walkOf main want s (beyond i) = stop s 4 i
+walkOf main want s (found i x rest) =
+    let next : Walk = walkOf main want (noted want s i x) rest in
+    cond (overWrong main x) (stop s 6 i) (cond (marked (s .seen) (x .tag)) (stop s 7 i) next)
 
-unfoldable pub walkField : message.Field → ℕ → State → List ℕ → Walked
+-- nothing met, but the codes of the set w
+abbrev pub begin : List ℕ → State
+begin w = record { seen = withEnds w; start = 0; over = 0; used = 0 }
+
+unfoldable pub walkField : Bool → ℕ → List ℕ → List ℕ → Walk
 unfolding walkOf parse
-walkField fd want s f = walkOf (start fd) (turn fd) want s 0 (parse 0 0 f)
+walkField main want w f = walkOf main want (begin w) (parse 0 0 f)
 
--- r is w, its options are within the field, and without a refusal there is no place
-pub record Walks (f : List ℕ) (w : Walked) (r : flat.Walked) : Type 0 where
-  pub is : walkedOf r ≡ w
-  pub within : r .used ≤ length f
-  pub no-place : r .number ≡ 0 → r .place ≡ 0
+-- why a walk ends before these items: 0 at END, else the number of the refusal; an option that may stand was met before
+abbrev pub whyAt : Bool → Parse → ℕ
+whyAt main ended = 0
+whyAt main (ranOut i) = 5
+whyAt main (beyond i) = 4
+whyAt main (found i x rest) = cond (overWrong main x) 6 7
+
+-- ---- the code's struct
+
+abbrev pub walkedAt : ℕ → ℕ → ℕ → ℕ → ℕ → flat.Walked
+walkedAt number i start used over =
+    record { start = start; used = used; place = cond (eqb number 0) 0 i; over = over; number = number }
+
+abbrev pub walkedOf : Walk → flat.Walked
+walkedOf w =
+    record { start = w .state .start; used = w .state .used; place = w .place; over = w .state .over; number = w .number }
+
+-- r is the walk of f after the codes w, w′ are the codes afterwards, and what r tells is within the field
+pub record Walks (main : Bool) (want : ℕ) (w f : List ℕ) (r : flat.Walked) (w′ : List ℕ) : Type 0 where
+  pub is : r ≡ walkedOf (walkField main want w f)
+  pub codes : w′ ≡ walkField main want w f .state .seen
+  pub start-in : r .start ≤ length f
+  pub used-in : r .used ≤ length f
+  pub place-in : r .place ≤ length f

@@ -1,46 +1,17 @@
-// The walk of one field of a message (document 01, The message and its fields): one walk for options, file and sname.
+// The walk of one field of a message (document 01, The message and its fields): one walk for options, file and sname. All offsets are in the field.
 ghost use mathlib.Core.Path.{_≡_};
+ghost use mathlib.Core.Bool.{false};
 ghost use Prim.Native.Nat.{_+_, _*_, _<_, _≤_, _/_};
 ghost use lib.ListN.{length, getD, drop};
-ghost use Rattle.options.specs.Message.{start, turn};
+ghost use Rattle.options.specs.Message.{start};
 ghost use Rattle.options.specs.Reading.{parse};
-ghost use Rattle.wire.specs.Walk.{fieldOf, stopAt, walkedOf, closedAt, walkField, atAfter, overWrong, overAfter, Walks, itemAt};
+ghost use Rattle.wire.specs.Walk.{fieldOf, itemAt, overWrong, overAfter, startAfter, whyAt, walkedAt, Walks};
 ghost use Rattle.wire.specs.Ahead.{nextOf};
 
 pub enum Field {
     Options,
     File,
     Sname,
-}
-
-// What a walk gives: the set of the codes met; where the wanted one stands, by the turn of its field (1 options, 2 file, 3 sname; 0: not met),
-// its offset there and the length of its data; the value of option 52 (0: not met); how many bytes of the fields the options take, pads and END not
-// counted; and number and place of a refusal (0: none). Flat, and with no gap between its numbers, since it is copied at each call.
-pub struct Walked {
-    pub seen: [u64; 4],
-    pub offset: usize,
-    pub used: usize,
-    pub place: usize,
-    pub field: u32,
-    pub len: u32,
-    pub over: u32,
-    pub number: u32,
-}
-
-// A refusal: nothing is told of what was met before it. With number 0: nothing met yet.
-pub fn stop(number: u32, place: usize) -> Walked
-    ensures { λ r. ⌜ r ≡ stopAt number place ⌝ }
-{
-    Walked {
-        seen: [0; 4],
-        offset: 0,
-        used: 0,
-        place,
-        field: 0,
-        len: 0,
-        over: 0,
-        number,
-    }
 }
 
 // The place of a field's first byte in the message.
@@ -54,15 +25,18 @@ pub fn base(field: Field) -> usize
     }
 }
 
-fn turn_of(field: Field) -> u32
-    ensures { λ r. ⌜ r ≡ turn (fieldOf field) ⌝ }
-{
-    match field {
-        Field::Options => 1,
-        Field::File => 2,
-        Field::Sname => 3,
-    }
+// What a walk gives: where the data of the wanted code start, just after their length byte (0: not met); how many bytes the options take, pads
+// and END not counted; the value of option 52 (0: not met); number and place of a refusal (0: none).
+pub struct Walked {
+    pub start: usize,
+    pub used: usize,
+    pub place: usize,
+    pub over: u32,
+    pub number: u32,
 }
+
+// The empty set of codes, with 0 and 255 marked as `walk` marks them.
+pub const NO_CODES: [u64; 4] = [1, 0, 0, 9223372036854775808];
 
 fn wide(x: u8) -> usize
     ensures { λ r. ⌜ (r ≡ x) × (r < 256) ⌝ }
@@ -77,11 +51,11 @@ fn word(c: u8) -> usize
     (c / 64) as usize
 }
 
-// Where the wanted code stands, after an option with code c at i.
-fn at_after(at: usize, want: u8, c: u8, i: usize) -> usize
-    ensures { λ r. ⌜ r ≡ atAfter want c i at ⌝ }
+// Where the data of the wanted code start, after an option with code c whose data start at j.
+fn start_after(start: usize, want: u8, c: u8, j: usize) -> usize
+    ensures { λ r. ⌜ r ≡ startAfter want c j start ⌝ }
 {
-    if c == want { i } else { at }
+    if c == want { j } else { start }
 }
 
 fn byte32(x: u8) -> u32
@@ -90,60 +64,15 @@ fn byte32(x: u8) -> u32
     x as u32
 }
 
-// The byte at an offset, or 0 past the field.
-fn byte_at(f: &[u8], i: usize) -> u8
-    ensures { λ r. ⌜ r ≡ getD (now (f .entry)) i 0 ⌝ }
-{
-    if i < f.len() { f[i] } else { 0 }
-}
-
-// A field that has its END: the wanted code stands at an offset of it, or where it stood before.
-fn close(
-    f: &[u8],
-    turn: u32,
-    at: usize,
-    before: Walked,
-    seen: [u64; 4],
-    over: u32,
-    used: usize,
-) -> Walked
-    ensures { λ r. ⌜ (walkedOf r ≡ closedAt (now (f .entry)) turn at (walkedOf before .state .hit) seen over used) × (r .used ≡ used) × (r .place ≡ 0) ⌝ }
-{
-    if at < f.len() {
-        let len = byte32(byte_at(f, at + 1));
-        return Walked {
-            seen,
-            offset: at,
-            used,
-            place: 0,
-            field: turn,
-            len,
-            over,
-            number: 0,
-        };
-    }
-    let offset = before.offset;
-    Walked {
-        seen,
-        offset,
-        used,
-        place: 0,
-        field: before.field,
-        len: before.len,
-        over,
-        number: 0,
-    }
-}
-
 // Whether the option with code c at i, whose n data bytes are within the field, is an option 52 that is refused.
-fn over_wrong(turn: u32, f: &[u8], i: usize, c: u8, n: usize) -> bool
+fn over_wrong(options: bool, f: &[u8], i: usize, c: u8, n: usize) -> bool
     requires { ⌜ i + 2 + n ≤ length (now f) ⌝ }
-    ensures { λ r. ⌜ r ≡ overWrong turn (itemAt c n (now (f .entry)) i) ⌝ }
+    ensures { λ r. ⌜ r ≡ overWrong options (itemAt c n (now (f .entry)) i) ⌝ }
 {
     if c != 52 {
         return false;
     }
-    if turn != 1 {
+    if !options {
         return true;
     }
     if n != 1 {
@@ -159,9 +88,9 @@ fn over_wrong(turn: u32, f: &[u8], i: usize, c: u8, n: usize) -> bool
     false
 }
 
-// The value of option 52 after that option; the first one stands.
-fn over_after(f: &[u8], i: usize, c: u8, n: usize, over: u32) -> u32
-    requires { ⌜ i + 2 + n ≤ length (now f) ⌝ }
+// The value of option 52 after an option that is not refused; the first one stands.
+fn over_after(options: bool, f: &[u8], i: usize, c: u8, n: usize, over: u32) -> u32
+    requires { ⌜ (i + 2 + n ≤ length (now f)) × (overWrong options (itemAt c n (now f) i) ≡ false) ⌝ }
     ensures { λ r. ⌜ r ≡ overAfter over (itemAt c n (now (f .entry)) i) ⌝ }
 {
     if c != 52 {
@@ -170,57 +99,99 @@ fn over_after(f: &[u8], i: usize, c: u8, n: usize, over: u32) -> u32
     if over != 0 {
         return over;
     }
-    if n == 0 {
-        return 0;
-    }
     byte32(f[i + 2])
 }
 
-// Walks a field, and keeps of it what `Walked` says, on top of what was kept of the fields before.
-pub fn walk(field: Field, f: &[u8], want: u8, st: Walked) -> Walked
-    ensures { λ r. ⌜ Walks (now (f .entry)) (walkField (fieldOf field) want (walkedOf st .state) (now (f .entry))) r ⌝ }
+// Why a walk ends at an offset where no pad stands: 0 at END, else the number of the refusal.
+fn why(options: bool, f: &[u8], i: usize) -> u32
+    requires { ⌜ (i < length (now f) → getD (now f) i 0 ≡ 0 → ⊥) ⌝ }
+    ensures { λ r. ⌜ r ≡ whyAt options (parse i 0 (drop i (now (f .entry)))) ⌝ }
 {
-    let first = base(field);
-    let turn = turn_of(field);
-    let mut seen = st.seen;
-    let mut over = st.over;
-    let mut at = f.len();
+    if f.len() <= i {
+        return 5;
+    }
+    let c = f[i];
+    if c == 255 {
+        return 0;
+    }
+    let j = i + 2;
+    if f.len() < j {
+        return 4;
+    }
+    let n = wide(f[i + 1]);
+    if f.len() < j + n {
+        return 4;
+    }
+    if over_wrong(options, f, i, c, n) {
+        return 6;
+    }
+    7
+}
+
+// What a walk gives that ends at i.
+fn end(number: u32, i: usize, start: usize, used: usize, over: u32) -> Walked
+    ensures { λ r. ⌜ r ≡ walkedAt number i start used over ⌝ }
+{
+    if number == 0 {
+        return Walked {
+            start,
+            used,
+            place: 0,
+            over,
+            number,
+        };
+    }
+    Walked {
+        start,
+        used,
+        place: i,
+        over,
+        number,
+    }
+}
+
+// Walks a field, and puts the codes met into the lent set. 0 and 255 are marked there too: so one test finds a pad, END and a code met before.
+pub fn walk(options: bool, f: &[u8], want: u8, seen: &mut [u64; 4]) -> Walked
+    ensures { λ r. ⌜ Walks options want (now (seen .entry)) (now (f .entry)) r (now (seen .exit)) ⌝ }
+{
+    codeset::mark(seen, 0);
+    codeset::mark(seen, 255);
+    let mut over: u32 = 0;
+    let mut start: usize = 0;
     let mut pads: usize = 0;
     let mut i: usize = 0;
     while i < f.len() {
         let c = f[i];
-        if c == 0 {
+        let k = word(c);
+        let old = seen[k];
+        let new = old | (1u64 << (c % 64));
+        if new == old {
+            if 0 < c {
+                break;
+            }
             pads = pads + 1;
             i = i + 1;
         } else {
-            if c == 255 {
-                return close(f, turn, at, st, seen, over, i - pads);
+            let j = i + 2;
+            if f.len() < j {
+                break;
             }
-            let j = i + 1;
-            if f.len() <= j {
-                return stop(4, first + i);
-            }
-            let n = wide(f[j]);
-            let e = j + 1 + n;
+            let n = wide(f[i + 1]);
+            let e = j + n;
             if f.len() < e {
-                return stop(4, first + i);
+                break;
             }
-            if over_wrong(turn, f, i, c, n) {
-                return stop(6, first + i);
+            if over_wrong(options, f, i, c, n) {
+                break;
             }
-            over = over_after(f, i, c, n, over);
-            let k = word(c);
-            let old = seen[k];
-            let new = old | (1u64 << (c % 64));
-            if new == old {
-                return stop(7, first + i);
-            }
+            over = over_after(options, f, i, c, n, over);
             seen[k] = new;
-            at = at_after(at, want, c, i);
+            start = start_after(start, want, c, j);
             i = e;
         }
     }
-    stop(5, first + i)
+    let number = why(options, f, i);
+    end(number, i, start, i - pads, over)
 }
 
 // What a field holds from an offset on, pads passed over.

@@ -1,9 +1,6 @@
 -- `listing::list` meets its contract. Assumes nothing.
 use borrow.Author.Needs.{needs}
-use mathlib.Core.Path.{_≡_, refl}
 use native.Mathlib.Omega.{arith}
-use borrow.Author.Tests.{eq-eqb, ne-eqb}
-use Rattle.wire.specs.Walk.{Closed, Fault, walkedOf}
 use Rattle.message.proofs.Bridge.{all-bytes}
 use Rattle.listing.proofs.Buffers.{puts-as}
 use Rattle.listing.proofs.Room.{refused-short}
@@ -19,26 +16,22 @@ put-refusal-requires c κs = let w = c .before .before .before .scan .result in 
 
 returns : tie.Need-returns
 returns c =
-    let m = c .before .before .before .before .before .before .args .m .now in
     let w = c .before .before .before .before .scan in
-    let e : walkedOf (w .result) .end ≡ Fault (w .result .number) (w .result .place) = rw (ne-eqb _ _ (c .before .before .if1 .taken)) refl in
-    at-front (puts-as (listing-refused 0 m (walkedOf (w .result)) (w .result .number) (w .result .place) (w .ensures .is) e) (c .put-refusal .ensures))
+    at-front (puts-as (listing-refused (c .before .before .before .before .before .before .before .args .m .now) (w .result) (w .last .1 .1 .0) (w .ensures) (c .before .before .if1 .taken)) (c .put-refusal .ensures))
 
 put-options-requires : tie.Need-put-options-requires
 put-options-requires c κs =
     let m = c .before .before .before .before .before .before .args .m .now in
-    let w = c .before .before .before .before .scan in
+    let w = c .before .before .before .scan in
     let k = all-bytes m (λ i. c .before .before .before .before .before .shared-slice-known .given i .fits) in
-    let e : walkedOf (w .result) .end ≡ Closed = rw (eq-eqb _ _ (c .before .before .if1 .left)) refl in
-    (long-enough 0 m (walkedOf (w .result)) k (w .ensures .is) e, omega (arith, has-room 0 m (walkedOf (w .result)) k (w .ensures .is) e))
+    (long-enough m (w .result) (w .last .1 .1 .0) k (w .ensures) (c .before .if1 .left), omega (arith, has-room m (w .result) (w .last .1 .1 .0) k (w .ensures) (c .before .if1 .left)))
 
 returns-2 : tie.Need-returns-2
 returns-2 c =
     let m = c .before .before .before .before .before .before .before .args .m .now in
-    let w = c .before .before .before .before .before .scan in
+    let w = c .before .before .before .before .scan in
     let k = all-bytes m (λ i. c .before .before .before .before .before .before .shared-slice-known .given i .fits) in
-    let e : walkedOf (w .result) .end ≡ Closed = rw (eq-eqb _ _ (c .before .before .before .if1 .left)) refl in
-    at-front (puts-as (listing-accepted 0 m (walkedOf (w .result)) k (w .ensures .is) e) (c .put-options .ensures))
+    at-front (puts-as (listing-accepted m (w .result) (w .last .1 .1 .0) k (w .ensures) (c .before .before .if1 .left)) (c .put-options .ensures))
 
 pub list-spec : {M : Type 1} → statement M
 list-spec =

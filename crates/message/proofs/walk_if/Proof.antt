@@ -1,34 +1,25 @@
 -- `message::walk_if` meets its contract. Assumes nothing.
 use borrow.Author.Needs.{needs}
-use mathlib.Core.Path.{refl}
-use native.Mathlib.Omega.{arith}
-use borrow.Author.Tests.{eq-eqb, ne-eqb, not-true, not-false}
-use Rattle.message.specs.Scan.{walkIf}
+use borrow.Author.Tests.{not-true, not-false}
+use Rattle.message.proofs.Laws.{goes-nowhere, goes-on}
 use Rattle.message.proofs.walk_if.Statement.{statement}
 use Rattle.message.proofs.walk_if.Tie as tie
 
-returns : tie.Need-returns
-unfolding walkIf
-returns c = record { is = rw (not-true (c .before .before .args .on) (c .if1 .taken)) refl; within = omega arith; no-place = λ h. h }
+stop-requires : tie.Need-stop-requires
+stop-requires c κs = search needs
 
-returns-2 : tie.Need-returns-2
-unfolding walkIf
-returns-2 c = record { is = rw (not-false (c .before .before .before .before .args .on) (c .before .before .if1 .left), ne-eqb _ _ (c .if2 .taken)) refl; within = omega arith; no-place = λ h. h }
+returns : tie.Need-returns
+returns c =
+    let a = c .before .before .before .args in
+    rw (not-true (a .on) (c .before .if1 .taken)) (goes-nowhere (a .want) (a .seen .now) (a .f .now) (c .stop .result) (c .stop .ensures))
 
 walk-requires : tie.Need-walk-requires
 walk-requires c κs = search needs
 
-join-requires : tie.Need-join-requires
-join-requires c κs = search needs
-
-returns-3 : tie.Need-returns-3
-unfolding walkIf
-returns-3 c =
-    record {
-      is = rw (not-false (c .before .before .before .before .before .before .args .on) (c .before .before .before .before .if1 .left), eq-eqb _ _ (c .before .before .if2 .left), ← c .before .walk .ensures .is) (c .join .ensures .0);
-      within = omega (arith, c .join .ensures .1, c .before .walk .ensures .within);
-      no-place = λ h. c .join .ensures .2;
-    }
+returns-2 : tie.Need-returns-2
+returns-2 c =
+    let s = c .before .before .before .before in
+    rw (not-false (s .args .on) (c .before .before .if1 .left)) (goes-on (s .args .want) (s .args .seen .now) (s .args .f .now) (c .walk .result) (c .walk .last .1 .1 .1 .0) (s .pre) (c .walk .ensures))
 
 pub walk-if-spec : {M : Type 1} → statement M
-walk-if-spec = tie.close (tie.spec returns returns-2 walk-requires join-requires returns-3)
+walk-if-spec = tie.close (tie.spec stop-requires returns walk-requires returns-2)

@@ -1,6 +1,6 @@
 -- `present::present` meets its contract. Assumes nothing.
 use borrow.Author.Needs.{needs}
-use Rattle.present.proofs.Laws.{codes-is}
+use Rattle.present.proofs.Laws.{codes-are}
 use Rattle.present.proofs.present.Statement.{statement}
 use Rattle.present.proofs.present.Tie as tie
 
@@ -14,7 +14,7 @@ lowest-requires : tie.Need-lowest-requires
 lowest-requires c κs = search needs
 
 returns : tie.Need-returns
-returns c = rw (c .lowest .ensures, c .before .count .ensures) (codes-is (c .before .before .before .before .before .args .m .now) (c .before .before .before .scan .result) (c .before .before .before .scan .ensures .is) (c .before .before .before .scan .ensures .no-place))
+returns c = rw (c .lowest .ensures, c .before .count .ensures) (codes-are (c .before .before .before .before .before .args .m .now) (c .before .before .scan .result) (c .before .before .scan .last .1 .1 .0) (c .before .before .scan .ensures))
 
 pub present-spec : {M : Type 1} → statement M
 present-spec = tie.close (tie.spec scan-requires count-requires lowest-requires returns)

@@ -43,7 +43,7 @@ part-put-field-end c = search needs
 put-field-requires : tie.Need-put-field-requires
 put-field-requires c κs =
     let s = c .before .before .before .before in
-    rw (take-rest (s .args .m .now) 240) (omega (arith, s .pre .1, room s))
+    rw (take-rest (s .args .m .now) 240) (s .pre .1 .of-options, omega (arith, s .pre .2, room s))
 
 file-on-requires : tie.Need-file-on-requires
 file-on-requires c κs = search needs
@@ -61,7 +61,7 @@ put-if-requires : tie.Need-put-if-requires
 put-if-requires c κs =
     let s = c .before .before .before .before .before .before .before .before .before .before in
     let p = c .before .before .before .before .before in
-    rw (c .before .before .file-on .ensures) (omega (arith, s .pre .1, room s, first p .next, p .put-field .kept .1 .0))
+    rw (c .before .before .file-on .ensures) (s .pre .1 .of-file, omega (arith, s .pre .2, room s, first p .next, p .put-field .kept .1 .0))
 
 sname-on-requires : tie.Need-sname-on-requires
 sname-on-requires c κs = search needs
@@ -81,7 +81,7 @@ put-if-requires-2 c κs =
     let p = c .before .before .before .before .before .before .before .before .before .before .before in
     let q = c .before .before .before .before .before in
     rw (c .before .before .sname-on .ensures)
-    (omega (arith, s .pre .1, room s, first p .next, p .put-field .kept .1 .0, second q .next, q .put-if .kept .1 .1 .0))
+    (s .pre .1 .of-sname, omega (arith, s .pre .2, room s, first p .next, p .put-field .kept .1 .0, second q .next, q .put-if .kept .1 .1 .0))
 
 same-length : tie.Need-same-length
 same-length c = search needs
@@ -93,7 +93,7 @@ returns c =
     let q = c .before .before .before .before .before .before .before .before in
     let a = s .args in
     placed-parts (fieldBytes true (bytes options (a .m .now))) (fieldBytes (fileIn (a .v)) (bytes file (a .m .now))) (fieldBytes (snameIn (a .v)) (bytes sname (a .m .now)))
-    (s .pre .1) (p .put-field .kept .1 .0) (first p) (second q) (rw (c .before .before .before .before .before .sname-on .ensures) at (c .before .before .put-if2 .ensures))
+    (s .pre .2) (p .put-field .kept .1 .0) (first p) (second q) (rw (c .before .before .before .before .before .sname-on .ensures) at (c .before .before .put-if2 .ensures))
 
 pub put-active-spec : {M : Type 1} → statement M
 put-active-spec =

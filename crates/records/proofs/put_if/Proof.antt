@@ -13,7 +13,7 @@ returns c =
 put-field-requires : tie.Need-put-field-requires
 put-field-requires c κs =
     let s = c .before .before .before .before in
-    rw (← not-false (s .args .on) (c .before .if1 .left)) (s .pre)
+    rw (not-false (s .args .on) (c .before .if1 .left)) at (s .pre)
 
 same-length : tie.Need-same-length
 same-length c = search needs

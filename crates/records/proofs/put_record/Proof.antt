@@ -1,12 +1,11 @@
 -- `records::put_record` meets its contract. Assumes nothing.
 use borrow.Author.Needs.{needs}
 use native.Mathlib.Omega.{arith}
-use mathlib.Core.Path.{_∙_}
+use mathlib.Core.Path.{refl, _∙_}
 use mathlib.Core.List.{List, [], _∷_}
 use Prim.Native.Nat.{ℕ, _+_}
 use lib.ListN.{length, set, length-set}
-use Rattle.buffer.proofs.Copied.{put-copied}
-use Rattle.records.proofs.Buffers.{laid-three, laid-laid}
+use Rattle.records.proofs.Buffers.{laid-three, laid-laid, laid-copied}
 use Rattle.records.proofs.put_record.Statement.{statement}
 use Rattle.records.proofs.put_record.Tie as tie
 
@@ -28,17 +27,20 @@ add-out-2 c = search needs
 slice-write-out-3 : tie.Need-slice-write-out-3
 slice-write-out-3 c = simp length-set (omega arith)
 
-add-copy : tie.Need-add-copy
-add-copy c = search needs
+add-a : tie.Need-add-a
+add-a c = search needs
+
+add-e : tie.Need-add-e
+add-e c = search needs
 
 sub-copy : tie.Need-sub-copy
-sub-copy c = simp length-set (omega arith)
+sub-copy c = search needs
 
 part-copy-start : tie.Need-part-copy-start
-part-copy-start c = simp length-set (omega arith)
+part-copy-start c = search needs
 
 part-copy-end : tie.Need-part-copy-end
-part-copy-end c = search needs
+part-copy-end c = simp length-set (omega arith)
 
 copy-requires : tie.Need-copy-requires
 copy-requires c κs = search needs
@@ -52,7 +54,7 @@ returns c =
     let a = s .args in
     let n : ℕ = length (a .body .now) in
     let x : List ℕ = set (set (set (a .out .now) (a .at) (a .code)) (a .at + 1) 0) (a .at + 2) n in
-    put-copied (a .at + 3) x (c .before .before .copy .last .0) (a .body .now) (simp length-set (s .pre .0)) (c .before .before .copy .ensures)
+    laid-copied x (a .at + 3) (a .at + 3 + n) (c .before .before .copy .last .0) (a .body .now) refl (simp length-set (s .pre .0)) (c .before .before .copy .ensures)
     ∙ rw (laid-three (a .out .now) (a .at) (a .code) 0 n (omega (arith, s .pre .0))) (laid-laid (a .out .now) (a .at) (a .code ∷ 0 ∷ n ∷ []) (a .body .now) (omega (arith, s .pre .0)))
 
 pub put-record-spec : {M : Type 1} → statement M
@@ -65,7 +67,8 @@ put-record-spec =
     cast-out
     add-out-2
     slice-write-out-3
-    add-copy
+    add-a
+    add-e
     sub-copy
     part-copy-start
     part-copy-end

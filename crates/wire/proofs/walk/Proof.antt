@@ -1,37 +1,87 @@
 -- `wire::walk` meets its contract: at each turn what is left of the field gives the same answer as the whole. Assumes nothing.
 use borrow.Author.Needs.{needs}
 use native.Mathlib.Omega.{arith}
-use mathlib.Core.Path.{_≡_, refl, sym, _∙_}
+use mathlib.Core.Path.{_≡_, refl, sym, ap, _∙_}
 use mathlib.Core.Bool.{true, false}
+use mathlib.Core.List.{List}
+use mathlib.Core.Logic.{⊎-elim}
 use Prim.Native.Nat.{ℕ, _≤_, _<_, _-_, _+_, _/_, _%_, _^_}
 use lib.Bits.{bitOr}
-use lib.ListN.{length, getD, take, drop}
-use Rattle.options.specs.CodeSet.{marked}
+use lib.ListN.{length, getD, take, drop, length-set}
+use Rattle.options.specs.CodeSet.{marked, withMark}
 use Rattle.options.specs.Reading.{found}
-use Rattle.codeset.proofs.Words.{one-shl, or-marked, or-unmarked}
-use Rattle.wire.specs.Walk.{fieldOf, itemAt, hitAt, hitOf, overWrong, State, walkedOf, walkOf}
-use Rattle.wire.proofs.Laws.{body-length, rest, rest-none, rest-pad, rest-end, rest-last, rest-long, rest-found, walk-wrong, walk-again, walk-next, walk-ends, walk-stops, hit-none, hit-next}
+use Rattle.codeset.proofs.Words.{one-shl, mark-same, mark-other}
+use Rattle.wire.specs.declared.Walked as flat
+use Rattle.wire.specs.Walk.{State}
+use Rattle.wire.specs.Walk.{itemAt, overWrong, withEnds, walkOf}
+use Rattle.wire.proofs.Laws.{body-length, rest, rest-pad, rest-found, walk-next, not-both, met-is, new-is, other-code, EndsAt, ends-none, ends-here, walk-done, start-within, end-place}
 use Rattle.wire.proofs.walk.Statement.{statement}
 use Rattle.wire.proofs.walk.Tie as tie
 
 abbrev Inv-loop : tie.InvT-loop
-Inv-loop f want st first turn seen₀ over₀ at₀ pads₀ i₀ seen over at pads i =
-    (i ≤ length f) × (pads ≤ i) × (walkOf first turn want (record { seen = seen; hit = hitAt f turn (hitOf st) at; over = over }) (i - pads) (rest f i) ≡ walkOf first turn want (record { seen = seen₀; hit = hitOf st; over = over₀ }) 0 (rest f 0))
+Inv-loop options f want seen₀ over₀ start₀ pads₀ i₀ seen over start pads i =
+    (i ≤ length f) × (pads ≤ i) × (start ≤ length f) × (marked seen 0 ≡ true) × (marked seen 255 ≡ true) × (length seen ≡ 4) × (walkOf options want (record { seen = seen; start = start; over = over; used = i - pads }) (rest f i) ≡ walkOf options want (record { seen = seen₀; start = 0; over = 0; used = 0 }) (rest f 0))
 
 abbrev μ-loop : tie.MeasureT-loop
-μ-loop f want st first turn seen₀ over₀ at₀ pads₀ i₀ seen over at pads i = length f - i
+μ-loop options f want seen₀ over₀ start₀ pads₀ i₀ seen over start pads i = length f - i
 
-base-requires : tie.Need-base-requires Inv-loop μ-loop
-base-requires c κs = search needs
+-- where the loop is left the walk ends
+ending : (c : tie.Left-loop Inv-loop μ-loop)
+    → EndsAt (c .before .before .before .before .before .before .before .args .options) (c .before .before .before .before .before .before .before .args .want) (record { seen = c .before .loop .seen; start = c .before .loop .start; over = c .before .loop .over; used = c .before .loop .i - c .before .loop .pads }) (c .before .before .before .before .before .before .before .args .f .now) (c .before .loop .i)
+ending c =
+    let a = c .before .before .before .before .before .before .before .args in
+    let f = a .f .now in
+    let l = c .before .loop in
+    let i = l .i in
+    let x = getD f i 0 in
+    let s : State = record { seen = l .seen; start = l .start; over = l .over; used = i - l .pads } in
+    ⊎-elim (λ w. ends-none (a .options) (a .want) s f i (w .left))
+    (⊎-elim (λ w. ends-here (a .options) (a .want) s f i (w .0 .taken) (λ z. omega (arith, w .5 .taken, z)) (λ e m o. met-is (l .seen) x (w .2 .result) (w .2 .ensures .0) (w .4 .taken)))
+    (⊎-elim
+    (λ w. ends-here (a .options) (a .want) s f i (w .0 .taken) (other-code (l .seen) x 0 (new-is (l .seen) x (w .2 .result) (w .2 .ensures .0) (w .4 .left)) (l .inv .3)) (λ e m o. absurd (omega (arith, w .5 .taken, m))))
+    (⊎-elim
+    (λ w. ends-here (a .options) (a .want) s f i (w .0 .taken) (other-code (l .seen) x 0 (new-is (l .seen) x (w .2 .result) (w .2 .ensures .0) (w .4 .left)) (l .inv .3)) (λ e m o. absurd (omega (arith, w .8 .taken, w .7 .ensures .0, m))))
+    (λ w. ends-here (a .options) (a .want) s f i (w .0 .taken) (other-code (l .seen) x 0 (new-is (l .seen) x (w .2 .result) (w .2 .ensures .0) (w .4 .left)) (l .inv .3)) (λ e m o. absurd (not-both (overWrong (a .options) (itemAt x (getD f (i + 1) 0) f i)) (rw (← w .7 .ensures .0) (sym (w .9 .ensures) ∙ w .10 .taken)) o))))))
+    (c .loop-test .came)
 
-turn-of-requires : tie.Need-turn-of-requires Inv-loop μ-loop
-turn-of-requires c κs = search needs
+mark-requires : tie.Need-mark-requires Inv-loop μ-loop
+mark-requires c κs = search needs
+
+mark-requires-2 : tie.Need-mark-requires-2 Inv-loop μ-loop
+mark-requires-2 c κs = search needs
 
 loop-holds : tie.Need-loop-holds Inv-loop μ-loop
-loop-holds c = (search needs, search needs, rw (hit-none (c .before .before .before .before .args .f .now) (c .before .turn-of .result) (hitOf (c .before .before .before .before .args .st))) refl)
+loop-holds c =
+    let a = c .before .before .before .before .before .args in
+    let w = c .before .before .mark .last .0 in
+    let v = c .before .before .mark .ensures in
+    let k : length w ≡ 4 = c .mark2 .ensures .1 in (
+      search needs,
+      search needs,
+      search needs,
+      rw (c .mark2 .ensures .0) (mark-other w 255 0 (omega arith) (omega arith) ∙ rw (v .0) (mark-same (a .seen .now) 0 (omega (arith, v .1)))),
+      rw (c .mark2 .ensures .0) (mark-same w 255 (omega arith)),
+      ap length (c .mark2 .ensures .0) ∙ length-set w 3 _ ∙ k,
+      refl,
+    )
 
 shared-slice-read-c : tie.Need-shared-slice-read-c Inv-loop μ-loop
 shared-slice-read-c c = search needs
+
+word-requires : tie.Need-word-requires Inv-loop μ-loop
+word-requires c κs = search needs
+
+mul-old : tie.Need-mul-old Inv-loop μ-loop
+mul-old c = search needs
+
+element-copy-out-old : tie.Need-element-copy-out-old Inv-loop μ-loop
+element-copy-out-old c = search needs
+
+cast-new : tie.Need-cast-new Inv-loop μ-loop
+cast-new c = search needs
+
+shl-new : tie.Need-shl-new Inv-loop μ-loop
+shl-new c = search needs
 
 add-pads : tie.Need-add-pads Inv-loop μ-loop
 add-pads c = search needs
@@ -44,56 +94,23 @@ loop-less c = search needs
 
 loop-again : tie.Need-loop-again Inv-loop μ-loop
 loop-again c =
-    let l = c .before .before .before in
-    let s = l .before .before .before .before .before in
-    let a = s .args in
-    let f = a .f .now in
-    let i = l .loop .i in
-    let first = l .before .before .before .base .result in
-    let turn = l .before .before .turn-of .result in
-    let z : i + 1 - (l .loop .pads + 1) ≡ i - l .loop .pads = omega arith in
-    (search needs, omega (arith, l .loop .inv .1), rw z (rw (rest-pad f i (c .before .before .loop-test .taken) (c .if1 .taken)) at (l .loop .inv .2)))
-
-sub-close : tie.Need-sub-close Inv-loop μ-loop
-sub-close c = search needs
-
-close-requires : tie.Need-close-requires Inv-loop μ-loop
-close-requires c κs = search needs
-
-returns : tie.Need-returns Inv-loop μ-loop
-unfolding walkOf
-returns c =
-    let l = c .before .before .before .before .before in
-    let s = l .before .before .before .before .before in
-    let a = s .args in
-    let f = a .f .now in
-    let i = l .loop .i in
-    let first = l .before .before .before .base .result in
-    let turn = l .before .before .turn-of .result in
-    walk-ends (fieldOf (a .field)) first turn (a .want) (walkedOf (a .st) .state) f (c .close .result) (l .before .before .before .base .ensures .0) (l .before .before .turn-of .ensures)
-    (c .close .ensures .0 ∙ (rw (rest-end f i (c .before .before .before .before .loop-test .taken) (c .before .if2 .taken)) at (l .loop .inv .2))) (omega (arith, c .close .ensures .1, l .loop .inv .0)) (λ z. c .close .ensures .2)
+    let l = c .before .before .before .before .before .before .loop in
+    let f = c .before .before .before .before .before .before .before .before .before .before .before .before .args .f .now in
+    let z : l .i + 1 - (l .pads + 1) ≡ l .i - l .pads = omega arith in (
+      search needs,
+      omega (arith, l .inv .1),
+      l .inv .2,
+      l .inv .3,
+      l .inv .4,
+      l .inv .5,
+      rw z (rw (rest-pad f (l .i) (c .before .before .before .before .before .loop-test .taken) (omega (arith, c .if2 .left))) at (l .inv .6)),
+    )
 
 add-j : tie.Need-add-j Inv-loop μ-loop
 add-j c = search needs
 
-add-stop : tie.Need-add-stop Inv-loop μ-loop
-add-stop c = search needs
-
-stop-requires : tie.Need-stop-requires Inv-loop μ-loop
-stop-requires c κs = search needs
-
-returns-2 : tie.Need-returns-2 Inv-loop μ-loop
-unfolding walkOf
-returns-2 c =
-    let l = c .before .before .before .before .before .before in
-    let s = l .before .before .before .before .before in
-    let a = s .args in
-    let f = a .f .now in
-    let i = l .loop .i in
-    let first = l .before .before .before .base .result in
-    let turn = l .before .before .turn-of .result in
-    walk-stops (fieldOf (a .field)) first turn (a .want) (walkedOf (a .st) .state) f (c .stop .result) (l .before .before .before .base .ensures .0) (l .before .before .turn-of .ensures) 4 (first + i) (c .stop .ensures) refl
-    (rw (rest-last f i (c .before .before .before .before .before .loop-test .taken) (c .before .before .before .if1 .left) (c .before .before .if2 .left) (c .before .if3 .taken)) at (l .loop .inv .2))
+add-wide : tie.Need-add-wide Inv-loop μ-loop
+add-wide c = search needs
 
 shared-slice-read-wide : tie.Need-shared-slice-read-wide Inv-loop μ-loop
 shared-slice-read-wide c = search needs
@@ -104,160 +121,81 @@ wide-requires c κs = search needs
 add-e : tie.Need-add-e Inv-loop μ-loop
 add-e c = search needs
 
-add-e-2 : tie.Need-add-e-2 Inv-loop μ-loop
-add-e-2 c = search needs
-
-add-stop-2 : tie.Need-add-stop-2 Inv-loop μ-loop
-add-stop-2 c = search needs
-
-stop-requires-2 : tie.Need-stop-requires-2 Inv-loop μ-loop
-stop-requires-2 c κs = search needs
-
-returns-3 : tie.Need-returns-3 Inv-loop μ-loop
-unfolding walkOf
-returns-3 c =
-    let l = c .before .before .before .before .before .before .before .before .before in
-    let s = l .before .before .before .before .before in
-    let a = s .args in
-    let f = a .f .now in
-    let i = l .loop .i in
-    let first = l .before .before .before .base .result in
-    let turn = l .before .before .turn-of .result in
-    let n : length f < i + 2 + getD f (i + 1) 0 = omega (arith, c .before .if4 .taken, c .before .before .wide .ensures .0) in
-    walk-stops (fieldOf (a .field)) first turn (a .want) (walkedOf (a .st) .state) f (c .stop2 .result) (l .before .before .before .base .ensures .0) (l .before .before .turn-of .ensures) 4 (first + i) (c .stop2 .ensures) refl
-    (rw (rest-long f i (c .before .before .before .before .before .before .before .before .loop-test .taken) (c .before .before .before .before .before .before .if1 .left) (c .before .before .before .before .before .if2 .left) (omega (arith, c .before .before .before .before .if3 .left)) n) at (l .loop .inv .2))
-
 over-wrong-requires : tie.Need-over-wrong-requires Inv-loop μ-loop
 over-wrong-requires c κs = search needs
 
-add-stop-3 : tie.Need-add-stop-3 Inv-loop μ-loop
-add-stop-3 c = search needs
-
-stop-requires-3 : tie.Need-stop-requires-3 Inv-loop μ-loop
-stop-requires-3 c κs = search needs
-
-returns-4 : tie.Need-returns-4 Inv-loop μ-loop
-unfolding walkOf
-returns-4 c =
-    let l = c .before .before .before .before .before .before .before .before .before .before .before in
-    let s = l .before .before .before .before .before in
-    let a = s .args in
-    let f = a .f .now in
-    let i = l .loop .i in
-    let first = l .before .before .before .base .result in
-    let turn = l .before .before .turn-of .result in
-    let w = c .before .before .before .before .wide .ensures .0 in
-    let n : i + 2 + getD f (i + 1) 0 ≤ length f = omega (arith, c .before .before .before .if4 .left, w) in
-    let st : State = record { seen = l .loop .seen; hit = hitAt f turn (hitOf (a .st)) (l .loop .at); over = l .loop .over } in
-    let g : rest f i ≡ found i (itemAt (getD f i 0) (getD f (i + 1) 0) f i) (rest f (i + 2 + getD f (i + 1) 0)) =
-    rest-found f i (c .before .before .before .before .before .before .before .before .before .before .loop-test .taken) (c .before .before .before .before .before .before .before .before .if1 .left) (c .before .before .before .before .before .before .before .if2 .left) (omega (arith, c .before .before .before .before .before .before .if3 .left)) n in
-    let o : overWrong turn (itemAt (getD f i 0) (getD f (i + 1) 0) f i) ≡ true = rw (← w) (sym (c .before .before .over-wrong .ensures) ∙ c .before .if5 .taken) in
-    walk-stops (fieldOf (a .field)) first turn (a .want) (walkedOf (a .st) .state) f (c .stop3 .result) (l .before .before .before .base .ensures .0) (l .before .before .turn-of .ensures) 6 (first + i) (c .stop3 .ensures) refl
-    (rw (g, walk-wrong first turn (a .want) st (i - l .loop .pads) i (itemAt (getD f i 0) (getD f (i + 1) 0) f i) (rest f (i + 2 + getD f (i + 1) 0)) o) at (l .loop .inv .2))
-
 over-after-requires : tie.Need-over-after-requires Inv-loop μ-loop
-over-after-requires c κs = search needs
-
-word-requires : tie.Need-word-requires Inv-loop μ-loop
-word-requires c κs = search needs
-
-mul-old : tie.Need-mul-old Inv-loop μ-loop
-mul-old c = search needs
-
-array-read-old : tie.Need-array-read-old Inv-loop μ-loop
-array-read-old c = search needs
-
-cast-new : tie.Need-cast-new Inv-loop μ-loop
-cast-new c = search needs
-
-shl-new : tie.Need-shl-new Inv-loop μ-loop
-shl-new c = search needs
-
-add-stop-4 : tie.Need-add-stop-4 Inv-loop μ-loop
-add-stop-4 c = search needs
-
-stop-requires-4 : tie.Need-stop-requires-4 Inv-loop μ-loop
-stop-requires-4 c κs = search needs
-
-returns-5 : tie.Need-returns-5 Inv-loop μ-loop
-unfolding walkOf
-returns-5 c =
-    let l = c .before .before .before .before .before .before .before .before .before .before .before .before .before .before in
-    let s = l .before .before .before .before .before in
-    let a = s .args in
-    let f = a .f .now in
-    let i = l .loop .i in
-    let first = l .before .before .before .base .result in
-    let turn = l .before .before .turn-of .result in
-    let w = c .before .before .before .before .before .before .before .wide .ensures .0 in
-    let n : i + 2 + getD f (i + 1) 0 ≤ length f = omega (arith, c .before .before .before .before .before .before .if4 .left, w) in
-    let st : State = record { seen = l .loop .seen; hit = hitAt f turn (hitOf (a .st)) (l .loop .at); over = l .loop .over } in
-    let g : rest f i ≡ found i (itemAt (getD f i 0) (getD f (i + 1) 0) f i) (rest f (i + 2 + getD f (i + 1) 0)) =
-    rest-found f i (c .before .before .before .before .before .before .before .before .before .before .before .before .before .loop-test .taken) (c .before .before .before .before .before .before .before .before .before .before .before .if1 .left) (c .before .before .before .before .before .before .before .before .before .before .if2 .left) (omega (arith, c .before .before .before .before .before .before .before .before .before .if3 .left)) n in
-    let o : overWrong turn (itemAt (getD f i 0) (getD f (i + 1) 0) f i) ≡ false = rw (← w) (sym (c .before .before .before .before .before .over-wrong .ensures) ∙ c .before .before .before .before .if5 .left) in
-    let k : bitOr (getD (l .loop .seen) (getD f i 0 / 64) 0) (2 ^ (getD f i 0 % 64)) ≡ getD (l .loop .seen) (getD f i 0 / 64) 0 =
-    rw (← one-shl (getD f i 0 % 64) (omega arith), ← c .before .before .word .ensures .0) (c .before .if6 .taken) in
-    let m : marked (l .loop .seen) (getD f i 0) ≡ true = or-marked (getD (l .loop .seen) (getD f i 0 / 64) 0) (getD f i 0 % 64) k in
-    walk-stops (fieldOf (a .field)) first turn (a .want) (walkedOf (a .st) .state) f (c .stop4 .result) (l .before .before .before .base .ensures .0) (l .before .before .turn-of .ensures) 7 (first + i) (c .stop4 .ensures) refl
-    (rw (g, walk-again first turn (a .want) st (i - l .loop .pads) i (itemAt (getD f i 0) (getD f (i + 1) 0) f i) (rest f (i + 2 + getD f (i + 1) 0)) o m) at (l .loop .inv .2))
+over-after-requires c κs = (search needs, sym (c .before .over-wrong .ensures) ∙ c .if5 .left)
 
 mul-seen : tie.Need-mul-seen Inv-loop μ-loop
 mul-seen c = search needs
 
-array-write-seen : tie.Need-array-write-seen Inv-loop μ-loop
-array-write-seen c = search needs
+element-write-seen : tie.Need-element-write-seen Inv-loop μ-loop
+element-write-seen c = search needs
 
-at-after-requires : tie.Need-at-after-requires Inv-loop μ-loop
-at-after-requires c κs = search needs
+start-after-requires : tie.Need-start-after-requires Inv-loop μ-loop
+start-after-requires c κs = search needs
 
 loop-less-2 : tie.Need-loop-less-2 Inv-loop μ-loop
 loop-less-2 c = search needs
 
 loop-again-2 : tie.Need-loop-again-2 Inv-loop μ-loop
 loop-again-2 c =
-    let l = c .before .before .before .before .before .before .before .before .before .before .before .before .before .before in
-    let s = l .before .before .before .before .before in
-    let a = s .args in
+    let l = c .before .before .before .before .before .before .before .before .before .before .before .before .before .loop in
+    let a = c .before .before .before .before .before .before .before .before .before .before .before .before .before .before .before .before .before .before .before .args in
     let f = a .f .now in
-    let i = l .loop .i in
-    let first = l .before .before .before .base .result in
-    let turn = l .before .before .turn-of .result in
-    let w = c .before .before .before .before .before .before .before .wide .ensures .0 in
-    let n : i + 2 + getD f (i + 1) 0 ≤ length f = omega (arith, c .before .before .before .before .before .before .if4 .left, w) in
-    let st : State = record { seen = l .loop .seen; hit = hitAt f turn (hitOf (a .st)) (l .loop .at); over = l .loop .over } in
-    let g : rest f i ≡ found i (itemAt (getD f i 0) (getD f (i + 1) 0) f i) (rest f (i + 2 + getD f (i + 1) 0)) =
-    rest-found f i (c .before .before .before .before .before .before .before .before .before .before .before .before .before .loop-test .taken) (c .before .before .before .before .before .before .before .before .before .before .before .if1 .left) (c .before .before .before .before .before .before .before .before .before .before .if2 .left) (omega (arith, c .before .before .before .before .before .before .before .before .before .if3 .left)) n in
-    let o : overWrong turn (itemAt (getD f i 0) (getD f (i + 1) 0) f i) ≡ false = rw (← w) (sym (c .before .before .before .before .before .over-wrong .ensures) ∙ c .before .before .before .before .if5 .left) in
-    let m : marked (l .loop .seen) (getD f i 0) ≡ false =
-    or-unmarked (getD (l .loop .seen) (getD f i 0 / 64) 0) (getD f i 0 % 64)
-    (λ q. c .before .if6 .left (rw (one-shl (getD f i 0 % 64) (omega arith), c .before .before .word .ensures .0) q)) in
-    let b : length (take (getD f (i + 1) 0) (drop (i + 2) f)) ≡ getD f (i + 1) 0 = body-length f i (getD f (i + 1) 0) n in
-    let v = rw (g, walk-next first turn (a .want) st (i - l .loop .pads) i (itemAt (getD f i 0) (getD f (i + 1) 0) f i) (rest f (i + 2 + getD f (i + 1) 0)) o m, b) at (l .loop .inv .2) in
-    let q : i + 1 + 1 + getD f (i + 1) 0 ≡ i + 2 + getD f (i + 1) 0 = omega arith in
-    let z : i + 2 + getD f (i + 1) 0 - l .loop .pads ≡ i - l .loop .pads + (2 + getD f (i + 1) 0) = omega (arith, l .loop .inv .1) in (
+    let i = l .i in
+    let x = getD f i 0 in
+    let d = getD f (i + 1) 0 in
+    let k = c .before .before .before .before .before .before .before .before .before .before .word in
+    let w = c .before .before .before .before .before .wide .ensures .0 in
+    let n : i + 2 + d ≤ length f = omega (arith, c .before .before .before .before .if4 .left, w) in
+    let s : State = record { seen = l .seen; start = l .start; over = l .over; used = i - l .pads } in
+    let u : marked (l .seen) x ≡ false = new-is (l .seen) x (k .result) (k .ensures .0) (c .before .before .before .before .before .before .before .before .if1 .left) in
+    let z : x ≡ 0 → ⊥ = other-code (l .seen) x 0 u (l .inv .3) in
+    let e : x ≡ 255 → ⊥ = other-code (l .seen) x 255 u (l .inv .4) in
+    let g : rest f i ≡ found i (itemAt x d f i) (rest f (i + 2 + d)) =
+    rest-found f i (c .before .before .before .before .before .before .before .before .before .before .before .before .loop-test .taken) z e (omega (arith, c .before .before .before .before .before .before .before .if3 .left)) n in
+    let o : overWrong (a .options) (itemAt x d f i) ≡ false = rw (← w) (sym (c .before .before .before .over-wrong .ensures) ∙ c .before .before .if5 .left) in
+    let b : length (take d (drop (i + 2) f)) ≡ d = body-length f i d n in
+    let v = rw (g, walk-next (a .options) (a .want) s i (itemAt x d f i) (rest f (i + 2 + d)) o u, b) at (l .inv .6) in
+    let q : i + 2 + d - l .pads ≡ i - l .pads + (2 + d) = omega (arith, l .inv .1) in
+    let h : x / 64 < length (l .seen) = omega (arith, k .ensures .0, k .ensures .1, l .inv .5) in (
       omega (arith, n, w),
-      omega (arith, w, l .loop .inv .1),
-      rw (c .at-after .ensures, hit-next f turn (hitOf (a .st)) (a .want) (getD f i 0) i (l .loop .at) (c .before .before .before .before .before .before .before .before .before .before .before .before .before .loop-test .taken), c .before .before .before .over-after .ensures, c .before .before .word .ensures .0, one-shl (getD f i 0 % 64) (omega arith), w, q, z) v,
+      omega (arith, w, l .inv .1),
+      rw (c .start-after .ensures) (start-within (a .want) x (i + 2) (l .start) (length f) (omega (arith, n)) (l .inv .2)),
+      rw (k .ensures .0, one-shl (x % 64) (omega arith)) (mark-other (l .seen) x 0 h (λ y. z (sym y)) ∙ l .inv .3),
+      rw (k .ensures .0, one-shl (x % 64) (omega arith)) (mark-other (l .seen) x 255 h (λ y. e (sym y)) ∙ l .inv .4),
+      length-set (l .seen) (k .result) _ ∙ l .inv .5,
+      rw (c .start-after .ensures, c .before .over-after .ensures, k .ensures .0, one-shl (x % 64) (omega arith), w, q) v,
     )
 
-add-stop-5 : tie.Need-add-stop-5 Inv-loop μ-loop
-add-stop-5 c = search needs
+why-requires : tie.Need-why-requires Inv-loop μ-loop
+why-requires c κs = ending c .no-pad
 
-stop-requires-5 : tie.Need-stop-requires-5 Inv-loop μ-loop
-stop-requires-5 c κs = search needs
+sub-end : tie.Need-sub-end Inv-loop μ-loop
+sub-end c = search needs
 
-returns-6 : tie.Need-returns-6 Inv-loop μ-loop
-unfolding walkOf
-returns-6 c =
-    let l = c .before .before in
-    let s = l .before .before .before .before .before in
-    let a = s .args in
+end-requires : tie.Need-end-requires Inv-loop μ-loop
+end-requires c κs = search needs
+
+returns : tie.Need-returns Inv-loop μ-loop
+returns c =
+    let l = c .before .before .before .loop in
+    let a = c .before .before .before .before .before .before .before .before .before .args in
     let f = a .f .now in
-    let i = l .loop .i in
-    let first = l .before .before .before .base .result in
-    let turn = l .before .before .turn-of .result in
-    walk-stops (fieldOf (a .field)) first turn (a .want) (walkedOf (a .st) .state) f (c .stop5 .result) (l .before .before .before .base .ensures .0) (l .before .before .turn-of .ensures) 5 (first + i) (c .stop5 .ensures) refl
-    (rw (rest-none f i (c .before .loop-test .left)) at (l .loop .inv .2))
+    let s : State = record { seen = l .seen; start = l .start; over = l .over; used = l .i - l .pads } in
+    let m : c .before .before .before .before .mark2 .last .0 ≡ withEnds (a .seen .now) =
+    c .before .before .before .before .mark2 .ensures .0 ∙ ap (λ (x : List ℕ). withMark x 255) (c .before .before .before .before .before .before .mark .ensures .0) in
+    let k = walk-done (a .options) (a .want) (a .seen .now) f s (l .i) (ending (c .before .before)) (rw m at (l .inv .6)) in
+    let e = c .end .ensures in
+    record {
+      is = rw k (e ∙ rw (c .before .why .ensures) refl);
+      codes = rw k refl;
+      start-in = omega (arith, ap (λ (x : flat.Walked). x .start) e, l .inv .2);
+      used-in = omega (arith, ap (λ (x : flat.Walked). x .used) e, l .inv .0);
+      place-in = rw e (end-place (c .before .why .result) (l .i) (length f) (l .inv .0));
+    }
 
 pub walk-spec : {M : Type 1} → statement M
 walk-spec =
@@ -265,46 +203,32 @@ walk-spec =
     (tie.spec
     Inv-loop
     μ-loop
-    base-requires
-    turn-of-requires
+    mark-requires
+    mark-requires-2
     loop-holds
     shared-slice-read-c
+    word-requires
+    mul-old
+    element-copy-out-old
+    cast-new
+    shl-new
     add-pads
     add-i
     loop-less
     loop-again
-    sub-close
-    close-requires
-    returns
     add-j
-    add-stop
-    stop-requires
-    returns-2
+    add-wide
     shared-slice-read-wide
     wide-requires
     add-e
-    add-e-2
-    add-stop-2
-    stop-requires-2
-    returns-3
     over-wrong-requires
-    add-stop-3
-    stop-requires-3
-    returns-4
     over-after-requires
-    word-requires
-    mul-old
-    array-read-old
-    cast-new
-    shl-new
-    add-stop-4
-    stop-requires-4
-    returns-5
     mul-seen
-    array-write-seen
-    at-after-requires
+    element-write-seen
+    start-after-requires
     loop-less-2
     loop-again-2
-    add-stop-5
-    stop-requires-5
-    returns-6)
+    why-requires
+    sub-end
+    end-requires
+    returns)

@@ -58,7 +58,7 @@ returns-4 : tie.Need-returns-4
 returns-4 c =
     let options = c .before .before .before in
     let start = options .before .before .before .before .args in
-    with-file _ (sheetRecords 0 (now (start .s))) (start .permission) (options .before .before .if1 .left) (options .before .if2 .left) _ (sized options) (c .before .before .if3 .left) (c .if4 .taken)
+    with-file _ (sheetRecords 0 (now (start .s))) (start .permission) (options .before .before .if1 .left) (options .before .if2 .left) _ (sized options) (c .before .before .if3 .left) (omega (arith, c .if4 .taken))
 
 returns-5 : tie.Need-returns-5
 returns-5 c =

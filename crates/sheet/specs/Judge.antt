@@ -12,9 +12,12 @@ use Rattle.kinds.specs.Numbers.{faultOf}
 use Rattle.sheet.specs.declared.Judged.{Judged}
 use Rattle.sheet.specs.declared.Tags.{Tags}
 
+abbrev pub faultyAt : ℕ → ℕ → Judged
+faultyAt n p = record { number = n; place = p; records = 0 }
+
 -- "then the first faulty record, ..; then 14"
 abbrev pub verdict : Sheet → Judged
-verdict (faulty n p) = record { number = n; place = p; records = 0 }
+verdict (faulty n p) = faultyAt n p
 verdict (sound rs) = cond (threeBeforeOne rs) (record { number = 14; place = placeOf3 rs; records = 0 }) (record { number = 0; place = 0; records = length rs })
 
 unfoldable pub judgeOf : List ℕ → Judged

@@ -1,8 +1,8 @@
 // The settings sheet (document 01, The settings sheet and the writer): whether it is refused, whatever the buffer.
 ghost use mathlib.Core.Path.{_≡_};
-ghost use Prim.Native.Nat.{suc, _<_, _/_};
+ghost use Prim.Native.Nat.{suc, _+_, _-_, _<_, _≤_, _/_};
 ghost use lib.ListN.{length, drop, getD};
-ghost use Rattle.sheet.specs.Judge.{judgeOf, tagBroken, metBroken, threeAfter, oneAfter, tagsAfter, orderOf};
+ghost use Rattle.sheet.specs.Judge.{judgeOf, faultyAt, tagBroken, metBroken, threeAfter, oneAfter, tagsAfter, orderOf};
 
 // Number and place of a sheet's refusal; 0, 0 and the number of records where there is none.
 pub struct Judged {
@@ -52,17 +52,13 @@ fn tag_fault(tag: u8, n: usize) -> u32
     7
 }
 
-// The number of the first rule that the record at a place breaks, or 0; `met`: its tag is in the set.
+// The number of the first rule that the record at a place breaks, or 0. Its head is whole; `met`: its tag is in the set.
 fn broken_rule(s: &[u8], at: usize, met: bool) -> u32
-    requires { ⌜ at < length (now s) ⌝ }
+    requires { ⌜ at + 3 ≤ length (now s) ⌝ }
     ensures { λ r. ⌜ r ≡ metBroken met (getD (now (s .entry)) at 0) (drop (suc at) (now (s .entry))) ⌝ }
 {
-    let left = s.len() - at;
-    if left < 3 {
-        return 12;
-    }
     let n = 256 * wide(s[at + 1]) + wide(s[at + 2]);
-    if left - 3 < n {
+    if s.len() - at - 3 < n {
         return 12;
     }
     let tag = s[at];
@@ -110,6 +106,17 @@ fn tags_after(three: usize, one: bool, c: u8, here: usize) -> Tags
     Tags { three, one }
 }
 
+// A sheet whose first faulty record stands at a place.
+fn faulty(number: u32, place: usize) -> Judged
+    ensures { λ r. ⌜ r ≡ faultyAt number place ⌝ }
+{
+    Judged {
+        number,
+        place,
+        records: 0,
+    }
+}
+
 // A sheet without a faulty record: 14 where tag 1 was met and tag 3 before it.
 fn order(three: usize, one: bool, records: usize) -> Judged
     ensures { λ r. ⌜ r ≡ orderOf three one records ⌝ }
@@ -135,6 +142,13 @@ fn order(three: usize, one: bool, records: usize) -> Judged
     }
 }
 
+// Where the heads of records end, in a sheet of so many bytes: one that begins there or later is cut.
+fn heads_end(len: usize) -> usize
+    ensures { λ r. ⌜ r ≡ len - 2 ⌝ }
+{
+    if len < 2 { 0 } else { len - 2 }
+}
+
 // Judges a sheet in one walk (document 01, Numbers given on refusal): the first faulty record, then 14.
 pub fn judge(s: &[u8]) -> Judged
     ensures { λ r. ⌜ r ≡ judgeOf (now (s .entry)) ⌝ }
@@ -144,18 +158,15 @@ pub fn judge(s: &[u8]) -> Judged
     let mut one = false;
     let mut records: usize = 0;
     let mut at: usize = 0;
-    while at < s.len() {
+    let end = heads_end(s.len());
+    while at < end {
         let c = s[at];
         let k = word(c);
         let old = seen[k];
         let new = old | (1u64 << (c % 64));
         let number = broken_rule(s, at, new == old);
         if number != 0 {
-            return Judged {
-                number,
-                place: at,
-                records: 0,
-            };
+            return faulty(number, at);
         }
         seen[k] = new;
         let tags = tags_after(three, one, c, at + 1);
@@ -163,6 +174,9 @@ pub fn judge(s: &[u8]) -> Judged
         one = tags.one;
         records += 1;
         at = at + 3 + wide(s[at + 2]);
+    }
+    if at < s.len() {
+        return faulty(12, at);
     }
     order(three, one, records)
 }

@@ -10,7 +10,7 @@ use borrow.Rule.Slice.PartMut.{putMid, midOf}
 use lib.Dec.{eqb}
 use borrow.Author.Tests.{ne-eqb}
 use Rattle.options.specs.Message.{cookie}
-use Rattle.field_writer.specs.Fill.{sheetRecords, filled}
+use Rattle.writer.specs.Fill.{sheetRecords, filled}
 use Rattle.writer.specs.Writer.{leastRoom, placeIf}
 
 -- a part is put back in its place

@@ -2,25 +2,22 @@
 use mathlib.Core.Path.{_≡_, refl, sym, ap, ap₂, _∙_}
 use mathlib.Core.List.{List, [], _∷_}
 use mathlib.Core.Bool.{Bool, true, false, cond}
-use Prim.Native.Nat.{ℕ, _+_, _-_, _<_, _≤_}
+use Prim.Native.Nat.{ℕ, _-_, _<_, _≤_}
 use native.Mathlib.Omega.{arith}
-use lib.ListN.{length, replicate, length-replicate}
-use lib.Dec.{eqb, leb}
+use lib.ListN.{length}
+use lib.Dec.{eqb, leb, ltb}
 use borrow.Author.Tests.{lt-ltb, le-ltb, lt-leb, leb-true, eq-eqb, ne-eqb, eqb-true, eqb-false}
 use Rattle.options.specs.Message.{Rec}
-use Rattle.options.specs.Reading.{fileIn, snameIn}
 use Rattle.options.specs.Kinds.{kinds}
-use Rattle.options.specs.Answers.{recordBytes}
 use Rattle.options.specs.Writing.{wrote, declined, isNil, pastSname, planFits, written, plans, tryPlans, sheet, afterSheet, writer}
-use Rattle.field_writer.specs.Fill.{sheetRecords, taken, past52}
-use Rattle.field_writer.proofs.Accepted.{accepted-records, accepted-whole}
-use Rattle.field_writer.proofs.Plans.{plan-fits}
+use Rattle.writer.specs.Fill.{sheetRecords, Whole, sizes}
+use Rattle.writer.proofs.Accepted.{accepted-records, accepted-whole}
+use Rattle.writer.proofs.Sizes.{pastO, pastF, fits-1, fits-2, fits-3}
 use Rattle.sheet.specs.Judge.{judgeOf}
 use Rattle.sheet.proofs.Verdicts.{Accepted, accepted, tries, refused}
-use Rattle.writer.specs.Writer.{leastRoom, placeAfter, placeIf, overloading, firstFit, Whole, Gives}
+use Rattle.writer.specs.Writer.{leastRoom, overloading, firstFit, Gives}
 use Rattle.writer.specs.declared.Wrote.{Wrote}
 use Rattle.writer.specs.declared.Wrote.the-variants.{Plan, Refused}
-use Rattle.writer.proofs.Parts.{some-room, room-52}
 
 -- ---- Whether a plan fits
 
@@ -39,96 +36,65 @@ has-room p n rs e = go (leb (leastRoom p) n) refl e
     go true q y = leb-true (leastRoom p) n q
     go false q y = clash (cc)
 
--- the last place of a plan, in a buffer of so many bytes, is the sheet's end
-abbrev atEnd : ℕ → List ℕ → ℕ → Bool
-atEnd p s len = eqb (placeIf (snameIn p) 64 s (placeIf (fileIn p) 128 s (taken (past52 p (len - 240)) (sheetRecords 0 s)))) (length s)
-
-last-place : (p len : ℕ) (s : List ℕ) → 240 ≤ len → leastRoom p ≤ len - 240 → Whole s → atEnd p s len ≡ planFits p (len - 240) (sheetRecords 0 s)
-last-place p len s h l w = go (replicate len 0) (length-replicate len 0)
-  where
-    go : (m : List ℕ) → length m ≡ len → atEnd p s len ≡ planFits p (len - 240) (sheetRecords 0 s)
-    go m e =
-        let some : 0 < len - 240 = some-room p (len - 240) l in
-        let all : 0 + length (recordBytes (sheetRecords 0 s)) ≡ length s = omega (arith, w) in
-        let f : planFits p (length m - 240) (sheetRecords 0 s) ≡ atEnd p s (length m) = plan-fits p m s (omega arith) (λ z. omega (arith, room-52 p (len - 240) l z)) all in
-        ap (atEnd p s) (sym e) ∙ sym f ∙ ap (λ (k : ℕ). planFits p (k - 240) (sheetRecords 0 s)) e
-
 -- ---- The plans that overload
 
-module _ (len : ℕ) (s : List ℕ) (permission : ℕ) (some : permission ≡ 0 → ⊥) where
-  abbrev rs : List Rec
-  rs = sheetRecords 0 s
-
+module _ (n : ℕ) (rs : List Rec) (permission : ℕ) (some : permission ≡ 0 → ⊥) where
   -- the answer, as `overload_plan` gives it
   abbrev chosen : ℕ
-  chosen = firstFit (overloading permission) (len - 240) (sheetRecords 0 s)
+  chosen = firstFit (overloading permission) n rs
 
-  of-2 : permission ≡ 2 → chosen ≡ cond (planFits 2 (len - 240) (sheetRecords 0 s)) 2 0
+  of-2 : permission ≡ 2 → chosen ≡ cond (planFits 2 n rs) 2 0
   unfolding firstFit
   of-2 e = rw (ne-eqb permission 0 some, ne-eqb permission 1 (λ z. omega arith), eq-eqb permission 2 e)
 
-  of-1 : permission ≡ 1 → chosen ≡ cond (planFits 1 (len - 240) (sheetRecords 0 s)) 1 0
+  of-1 : permission ≡ 1 → chosen ≡ cond (planFits 1 n rs) 1 0
   unfolding firstFit
   of-1 e = rw (ne-eqb permission 0 some, eq-eqb permission 1 e)
 
-  of-3 : (permission ≡ 1 → ⊥) → (permission ≡ 2 → ⊥)
-      → chosen ≡ cond (planFits 1 (len - 240) (sheetRecords 0 s)) 1 (cond (planFits 2 (len - 240) (sheetRecords 0 s)) 2 (cond (planFits 3 (len - 240) (sheetRecords 0 s)) 3 0))
+  of-3 : (permission ≡ 1 → ⊥) → (permission ≡ 2 → ⊥) → chosen ≡ cond (planFits 1 n rs) 1 (cond (planFits 2 n rs) 2 (cond (planFits 3 n rs) 3 0))
   unfolding firstFit
   of-3 n1 n2 = rw (ne-eqb permission 0 some, ne-eqb permission 1 n1, ne-eqb permission 2 n2)
 
-  pub none-small : len - 240 < 4 → 0 ≡ chosen
+  pub none-small : n < 4 → 0 ≡ chosen
   unfolding firstFit
   none-small h = sym (go (eqb permission 0) (eqb permission 1) (eqb permission 2))
     where
-      go : (a b c : Bool) → firstFit (cond a [] (cond b (1 ∷ []) (cond c (2 ∷ []) (1 ∷ 2 ∷ 3 ∷ [])))) (len - 240) (sheetRecords 0 s) ≡ 0
+      go : (a b c : Bool) → firstFit (cond a [] (cond b (1 ∷ []) (cond c (2 ∷ []) (1 ∷ 2 ∷ 3 ∷ [])))) n rs ≡ 0
       go true b c = refl
-      go false true c = rw (← no-room 1 (len - 240) (sheetRecords 0 s) h)
-      go false false true = rw (← no-room 2 (len - 240) (sheetRecords 0 s) h)
-      go false false false = rw (← no-room 1 (len - 240) (sheetRecords 0 s) h, ← no-room 2 (len - 240) (sheetRecords 0 s) h, ← no-room 3 (len - 240) (sheetRecords 0 s) h)
+      go false true c = rw (← no-room 1 n rs h)
+      go false false true = rw (← no-room 2 n rs h)
+      go false false false = rw (← no-room 1 n rs h, ← no-room 2 n rs h, ← no-room 3 n rs h)
 
-  -- a is the place after options, f the one after file behind it
-  module _ (h : 240 ≤ len) (l : 4 ≤ len - 240) (w : Whole s) (a : ℕ) (ea : a ≡ taken (len - 240 - 3) (sheetRecords 0 s)) where
-    fits-2 : planFits 2 (len - 240) (sheetRecords 0 s) ≡ eqb (placeAfter 64 s a) (length s)
-    fits-2 = rw ea (sym (last-place 2 len s h l w))
+  -- a is what the options after the options field take
+  module _ (l : 4 ≤ n) (a : ℕ) (ea : a ≡ sizes (pastO n rs l)) where
+    -- where sname takes them all, and where file does
+    sname-takes : planFits 2 n rs ≡ ltb a 64
+    sname-takes = rw ea (fits-2 n rs l)
 
-    pub with-sname : (r : ℕ) → permission ≡ 2 → r ≡ cond (eqb (placeAfter 64 s a) (length s)) 2 0 → r ≡ chosen
-    with-sname r e er = er ∙ sym (of-2 e ∙ ap (λ (b : Bool). cond b 2 0) fits-2)
+    file-takes : (b : Bool) → ltb a 128 ≡ b → planFits 1 n rs ≡ b
+    file-takes b q = fits-1 n rs l ∙ (rw (← ea) q)
 
-    module _ (n2 : permission ≡ 2 → ⊥) (f : ℕ) (ef : f ≡ placeAfter 128 s a) where
-      fits-1 : planFits 1 (len - 240) (sheetRecords 0 s) ≡ eqb f (length s)
-      fits-1 = rw (ef, ea) (sym (last-place 1 len s h l w))
+    pub sname-only : (r : ℕ) → permission ≡ 2 → r ≡ cond (ltb a 64) 2 0 → r ≡ chosen
+    sname-only r e er = er ∙ sym (of-2 e ∙ ap (λ (b : Bool). cond b 2 0) sname-takes)
 
-      fits-3 : planFits 3 (len - 240) (sheetRecords 0 s) ≡ eqb (placeAfter 64 s f) (length s)
-      fits-3 = rw (ef, ea) (sym (last-place 3 len s h l w))
-
-      pub with-file : f ≡ length s → 1 ≡ chosen
-      with-file e = sym (go (eqb permission 1) refl)
+    module _ (n2 : permission ≡ 2 → ⊥) where
+      pub with-file : a < 128 → 1 ≡ chosen
+      with-file h = sym (go (eqb permission 1) refl)
         where
           go : (b : Bool) → eqb permission 1 ≡ b → chosen ≡ 1
-          go true q = of-1 (eqb-true permission 1 q) ∙ (rw (fits-1, eq-eqb f (length s) e))
-          go false q = of-3 (eqb-false permission 1 q) n2 ∙ (rw (fits-1, eq-eqb f (length s) e))
+          go true q = of-1 (eqb-true permission 1 q) ∙ (rw (file-takes true (lt-ltb a 128 h)))
+          go false q = of-3 (eqb-false permission 1 q) n2 ∙ (rw (file-takes true (lt-ltb a 128 h)))
 
-      module _ (n : f ≡ length s → ⊥) where
-        pub file-alone : permission ≡ 1 → 0 ≡ chosen
-        file-alone e = sym (of-1 e ∙ (rw (fits-1, ne-eqb f (length s) n)))
+      module _ (h : 128 ≤ a) where
+        pub file-only : permission ≡ 1 → 0 ≡ chosen
+        file-only e = sym (of-1 e ∙ (rw (file-takes false (le-ltb a 128 h))))
 
-        module _ (n1 : permission ≡ 1 → ⊥) where
-          third : chosen ≡ cond (eqb (placeAfter 64 s a) (length s)) 2 (cond (eqb (placeAfter 64 s f) (length s)) 3 0)
-          third = rw (← fits-2, ← fits-3) (of-3 n1 n2 ∙ ap (λ (b : Bool). cond b 1 (cond (planFits 2 (len - 240) (sheetRecords 0 s)) 2 (cond (planFits 3 (len - 240) (sheetRecords 0 s)) 3 0))) (fits-1 ∙ ne-eqb f (length s) n))
-
-          pub sname-alone : (p : ℕ) → p ≡ cond (eqb (placeAfter 64 s a) (length s)) 2 0 → (p ≡ 0 → ⊥) → p ≡ chosen
-          sname-alone p ep z = sym (third ∙ go (eqb (placeAfter 64 s a) (length s)) ep)
-            where
-              go : (b : Bool) → p ≡ cond b 2 0 → cond b 2 (cond (eqb (placeAfter 64 s f) (length s)) 3 0) ≡ p
-              go true e = sym e
-              go false e = absurd (z e)
-
-          pub with-both : (p : ℕ) → p ≡ cond (eqb (placeAfter 64 s a) (length s)) 2 0 → p ≡ 0 → (r : ℕ) → r ≡ cond (eqb (placeAfter 64 s f) (length s)) 3 0 → r ≡ chosen
-          with-both p ep z r er = er ∙ sym (third ∙ go (eqb (placeAfter 64 s a) (length s)) ep)
-            where
-              go : (b : Bool) → p ≡ cond b 2 0 → cond b 2 (cond {A = ℕ} (eqb (placeAfter 64 s f) (length s)) 3 0) ≡ cond (eqb (placeAfter 64 s f) (length s)) 3 0
-              go true e = absurd (omega arith)
-              go false e = refl
+        -- so sname does not, and plan 3 is left
+        pub with-both : (permission ≡ 1 → ⊥) → (f : ℕ) → f ≡ sizes (pastF n rs l) → (r : ℕ) → r ≡ cond (ltb f 64) 3 0 → r ≡ chosen
+        with-both n1 f ef r er =
+            let two : planFits 2 n rs ≡ false = sname-takes ∙ le-ltb a 64 (omega arith) in
+            let three : planFits 3 n rs ≡ ltb f 64 = rw ef (fits-3 n rs l) in
+            er ∙ sym (of-3 n1 n2 ∙ (rw (file-takes false (le-ltb a 128 h), two, three)))
 
 -- ---- The plans, one after the other
 
@@ -233,10 +199,10 @@ module _ (s m : List ℕ) (permission : ℕ) where
               let e : sheetRecords 0 s ≡ a .records = accepted-records kinds s (a .records) (a .parsed) in
               rw (to-sheet, tries s m permission a, ← e) g
 
-pub whole-sheet : (s : List ℕ) → judgeOf s .number ≡ 0 → Whole s
+pub whole-sheet : (s : List ℕ) → judgeOf s .number ≡ 0 → Whole s 0
 whole-sheet s z =
     let a : Accepted s = accepted s z in
-    omega (arith, accepted-whole kinds s (a .records) (a .parsed))
+    accepted-whole kinds s (a .records) (a .parsed)
 
 pub counted : (s : List ℕ) → judgeOf s .number ≡ 0 → judgeOf s .records ≡ length (sheetRecords 0 s)
 counted s z =

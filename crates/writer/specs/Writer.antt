@@ -3,12 +3,12 @@ use mathlib.Core.Path.{_≡_}
 use mathlib.Core.List.{List, [], _∷_}
 use mathlib.Core.Bool.{Bool, cond}
 use Prim.Native.Nat.{ℕ, _+_}
-use lib.ListN.{length, drop}
+use lib.ListN.{drop}
 use lib.Dec.{eqb}
 use Rattle.options.specs.Message.{Rec}
-use Rattle.options.specs.Answers.{recordBytes}
 use Rattle.options.specs.Writing as options
-use Rattle.field_writer.specs.Fill.{sheetRecords, taken}
+use Rattle.writer.specs.Fill.{sheetRecords, taken, sizes}
+use Rattle.writer.specs.declared.Rest.{Rest}
 use Rattle.writer.specs.declared.Wrote.{Wrote}
 use Rattle.writer.specs.declared.Wrote.the-variants.{Plan, Refused}
 
@@ -48,6 +48,6 @@ placeAfter n s at = at + taken n (sheetRecords 0 (drop at s))
 abbrev pub placeIf : Bool → ℕ → List ℕ → ℕ → ℕ
 placeIf used n s at = cond used (placeAfter n s at) at
 
--- the records take all of the sheet
-abbrev pub Whole : List ℕ → Type 0
-Whole s = length (recordBytes (sheetRecords 0 s)) ≡ length s
+-- what a field of n bytes leaves over of the records from a place on
+abbrev pub restAfter : ℕ → List ℕ → ℕ → Rest
+restAfter n s at = record { place = placeAfter n s at; total = sizes (drop (options.fits n (sheetRecords 0 (drop at s))) (sheetRecords 0 (drop at s))) }

@@ -6,13 +6,12 @@ use mathlib.Core.List.{List}
 use Prim.Native.Nat.{ℕ, _<_}
 use lib.ListN.{length, length-set}
 use denote.Ref.{now}
-use Rattle.field_writer.proofs.Bytes.{put-end}
-use Rattle.field_writer.proofs.Filling.{ended-none, ended}
+use Rattle.field_writer.proofs.Bytes.{put-end, no-end}
 use Rattle.field_writer.proofs.close.Statement.{statement}
 use Rattle.field_writer.proofs.close.Tie as tie
 
 returns : tie.Need-returns
-returns c = ended-none (now (c .before .before .args .room)) (c .if1 .taken)
+returns c = no-end (now (c .before .before .args .room)) (c .if1 .taken)
 
 slice-write-room : tie.Need-slice-write-room
 slice-write-room c = search needs
@@ -36,7 +35,7 @@ returns-2 : tie.Need-returns-2
 returns-2 c =
     let room : List ℕ = now (c .before .before .before .before .before .before .args .room) in
     let some : 0 < length room = omega (arith, c .before .before .before .before .if1 .left) in
-    put-end room (c .before .before .clear .last .0) some (c .before .before .clear .ensures) ∙ ended (length room) some
+    put-end room (c .before .before .clear .last .0) some (c .before .before .clear .ensures)
 
 pub close-spec : {M : Type 1} → statement M
 close-spec =

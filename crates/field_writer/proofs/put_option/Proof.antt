@@ -1,12 +1,25 @@
 -- `field_writer::put_option` meets its contract. Assumes nothing.
 use borrow.Author.Needs.{needs}
 use native.Mathlib.Omega.{arith}
-use mathlib.Core.Path.{_∙_}
+use mathlib.Core.Path.{sym, _∙_}
 use lib.ListN.{length-set}
 use denote.Ref.{now}
-use Rattle.field_writer.proofs.Bytes.{put-head}
+use Rattle.field_writer.proofs.Bytes.{too-long, too-large, with-option, put-head}
 use Rattle.field_writer.proofs.put_option.Statement.{statement}
 use Rattle.field_writer.proofs.put_option.Tie as tie
+
+returns : tie.Need-returns
+returns c =
+    let start = c .before .before .before .args in
+    too-long (now (start .room)) (now (start .body)) (start .code) (c .if1 .taken)
+
+add-if2 : tie.Need-add-if2
+add-if2 c = search needs
+
+returns-2 : tie.Need-returns-2
+returns-2 c =
+    let start = c .before .before .before .before .args in
+    too-large (now (start .room)) (now (start .body)) (start .code) (c .before .if1 .left) (c .if2 .taken)
 
 slice-write-room : tie.Need-slice-write-room
 slice-write-room c = search needs
@@ -32,15 +45,22 @@ copy-requires c κs = search needs
 same-length : tie.Need-same-length
 same-length c = c .before .room .given .1 ∙ simp length-set
 
-returns : tie.Need-returns
-returns c =
-    let start = c .before .before .before .before .before .before in
-    put-head (now (start .args .room)) (now (start .args .body)) (c .before .before .copy .last .0) (start .args .code) _ (start .pre .1) (c .before .before .copy .ensures)
+returns-3 : tie.Need-returns-3
+returns-3 c =
+    let branch = c .before .before .before .before in
+    let start = branch .before .before .before .before .args in
+    let room = now (start .room) in
+    let body = now (start .body) in
+    put-head room body (c .before .before .copy .last .0) (start .code) _ (branch .if2 .left) (c .before .before .copy .ensures)
+    ∙ sym (with-option room body (start .code) (branch .before .if1 .left) (branch .if2 .left))
 
 pub put-option-spec : {M : Type 1} → statement M
 put-option-spec =
     tie.close
     (tie.spec
+    returns
+    add-if2
+    returns-2
     slice-write-room
     cast-room
     slice-write-room-2
@@ -49,4 +69,4 @@ put-option-spec =
     part-copy-end
     copy-requires
     same-length
-    returns)
+    returns-3)

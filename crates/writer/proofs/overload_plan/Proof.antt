@@ -1,16 +1,31 @@
--- `writer::overload_plan` meets its contract: each answer, from the places after the fields. Assumes nothing.
-use mathlib.Core.Path.{_≡_, refl, _∙_}
+-- `writer::overload_plan` meets its contract: each answer, from what the fields leave over. Assumes nothing.
+use mathlib.Core.Path.{_≡_, ap, _∙_}
+use mathlib.Core.List.{List}
 use Prim.Native.Nat.{_-_}
-use lib.ListN.{length}
+use native.Mathlib.Omega.{arith}
+use lib.ListN.{drop}
 use denote.Ref.{now}
 use borrow.Author.Tests.{eq-eqb}
-use Rattle.field_writer.specs.Fill.{sheetRecords}
-use Rattle.field_writer.proofs.First.{from-start}
+use Rattle.options.specs.Message.{Rec}
+use Rattle.options.specs.Writing.{fits}
+use Rattle.writer.specs.Fill.{sheetRecords, sizes}
 use Rattle.writer.specs.Writer.{firstFit}
-use Rattle.writer.proofs.Trying.{none-small, with-sname, with-file, file-alone, sname-alone, with-both}
+use Rattle.writer.specs.declared.Rest.{Rest}
+use Rattle.writer.proofs.Accepted.{Remains, remains}
+use Rattle.writer.proofs.Sizes.{pastO}
+use Rattle.writer.proofs.Trying.{none-small, sname-only, with-file, file-only, with-both}
 use borrow.Author.Needs.{needs}
 use Rattle.writer.proofs.overload_plan.Statement.{statement}
 use Rattle.writer.proofs.overload_plan.Tie as tie
+
+-- what options leaves over
+after-options : (c : tie.After-rest-after) → Remains (c .before .before .before .before .args .len - 240 - 3) (now (c .before .before .before .before .args .s)) 0 (c .rest-after .result)
+after-options c =
+    let start = c .before .before .before .before in
+    remains _ (now (start .args .s)) 0 (c .rest-after .result) (start .pre .1) (c .rest-after .ensures)
+
+sized : (c : tie.After-rest-after) → c .rest-after .result .total ≡ sizes (pastO (c .before .before .before .before .args .len - 240) (sheetRecords 0 (now (c .before .before .before .before .args .s))) (c .before .if2 .left))
+sized c = ap (λ (r : Rest). r .total) (c .rest-after .ensures)
 
 returns : tie.Need-returns
 unfolding firstFit
@@ -20,40 +35,56 @@ sub-n : tie.Need-sub-n
 sub-n c = search needs
 
 returns-2 : tie.Need-returns-2
-returns-2 c = none-small (c .before .before .before .args .len) (now (c .before .before .before .args .s)) (c .before .before .before .args .permission) (c .before .if1 .left) (c .if2 .taken)
+returns-2 c =
+    let start = c .before .before .before .args in
+    none-small _ (sheetRecords 0 (now (start .s))) (start .permission) (c .before .if1 .left) (c .if2 .taken)
 
-sub-place-after : tie.Need-sub-place-after
-sub-place-after c = search needs
+sub-rest-after : tie.Need-sub-rest-after
+sub-rest-after c = search needs
 
-place-after-requires : tie.Need-place-after-requires
-place-after-requires c κs = search needs
+rest-after-requires : tie.Need-rest-after-requires
+rest-after-requires c κs = search needs
 
-sname-last-requires : tie.Need-sname-last-requires
-sname-last-requires c κs = search needs
+plan-if-requires : tie.Need-plan-if-requires
+plan-if-requires c κs = search needs
 
 returns-3 : tie.Need-returns-3
-returns-3 c = with-sname (c .before .before .before .before .before .before .args .len) (now (c .before .before .before .before .before .before .args .s)) (c .before .before .before .before .before .before .args .permission) (c .before .before .before .before .if1 .left) (c .before .before .before .before .before .before .pre .0) (c .before .before .before .if2 .left) (c .before .before .before .before .before .before .pre .1) _ (c .before .before .place-after .ensures ∙ from-start _) _ (c .before .if3 .taken) (c .sname-last .ensures)
-
-place-after-requires-2 : tie.Need-place-after-requires-2
-place-after-requires-2 c κs = search needs
+returns-3 c =
+    let options = c .before .before in
+    let start = options .before .before .before .before .args in
+    sname-only _ (sheetRecords 0 (now (start .s))) (start .permission) (options .before .before .if1 .left) (options .before .if2 .left) _ (sized options) _ (c .before .if3 .taken) (c .plan-if .ensures)
 
 returns-4 : tie.Need-returns-4
-returns-4 c = with-file (c .before .before .before .before .before .before .before .args .len) (now (c .before .before .before .before .before .before .before .args .s)) (c .before .before .before .before .before .before .before .args .permission) (c .before .before .before .before .before .if1 .left) (c .before .before .before .before .before .before .before .pre .0) (c .before .before .before .before .if2 .left) (c .before .before .before .before .before .before .before .pre .1) _ (c .before .before .before .place-after .ensures ∙ from-start _) (c .before .before .if3 .left) _ (c .before .place-after2 .ensures) (c .if4 .taken)
+returns-4 c =
+    let options = c .before .before .before in
+    let start = options .before .before .before .before .args in
+    with-file _ (sheetRecords 0 (now (start .s))) (start .permission) (options .before .before .if1 .left) (options .before .if2 .left) _ (sized options) (c .before .before .if3 .left) (omega (arith, c .if4 .taken))
 
 returns-5 : tie.Need-returns-5
-returns-5 c = file-alone (c .before .before .before .before .before .before .before .before .args .len) (now (c .before .before .before .before .before .before .before .before .args .s)) (c .before .before .before .before .before .before .before .before .args .permission) (c .before .before .before .before .before .before .if1 .left) (c .before .before .before .before .before .before .before .before .pre .0) (c .before .before .before .before .before .if2 .left) (c .before .before .before .before .before .before .before .before .pre .1) _ (c .before .before .before .before .place-after .ensures ∙ from-start _) (c .before .before .before .if3 .left) _ (c .before .before .place-after2 .ensures) (c .before .if4 .left) (c .if5 .taken)
+returns-5 c =
+    let options = c .before .before .before .before in
+    let start = options .before .before .before .before .args in
+    file-only _ (sheetRecords 0 (now (start .s))) (start .permission) (options .before .before .if1 .left) (options .before .if2 .left) _ (sized options) (c .before .before .before .if3 .left) (c .before .if4 .left) (c .if5 .taken)
 
-sname-last-requires-2 : tie.Need-sname-last-requires-2
-sname-last-requires-2 c κs = search needs
-
+-- what file cannot take, sname cannot
 returns-6 : tie.Need-returns-6
-returns-6 c = sname-alone (c .before .before .before .before .before .before .before .before .before .before .args .len) (now (c .before .before .before .before .before .before .before .before .before .before .args .s)) (c .before .before .before .before .before .before .before .before .before .before .args .permission) (c .before .before .before .before .before .before .before .before .if1 .left) (c .before .before .before .before .before .before .before .before .before .before .pre .0) (c .before .before .before .before .before .before .before .if2 .left) (c .before .before .before .before .before .before .before .before .before .before .pre .1) _ (c .before .before .before .before .before .before .place-after .ensures ∙ from-start _) (c .before .before .before .before .before .if3 .left) _ (c .before .before .before .before .place-after2 .ensures) (c .before .before .before .if4 .left) (c .before .before .if5 .left) _ (c .before .sname-last2 .ensures) (c .if6 .taken)
+returns-6 c = absurd (omega (arith, c .before .before .before .if4 .left, c .if6 .taken))
 
-sname-last-requires-3 : tie.Need-sname-last-requires-3
-sname-last-requires-3 c κs = search needs
+rest-after-requires-2 : tie.Need-rest-after-requires-2
+rest-after-requires-2 c κs =
+    let o = after-options (c .before .before .before .before .before .before) in
+    (o .whole, o .total)
+
+plan-if-requires-2 : tie.Need-plan-if-requires-2
+plan-if-requires-2 c κs = search needs
 
 returns-7 : tie.Need-returns-7
-returns-7 c = with-both (c .before .before .before .before .before .before .before .before .before .before .before .args .len) (now (c .before .before .before .before .before .before .before .before .before .before .before .args .s)) (c .before .before .before .before .before .before .before .before .before .before .before .args .permission) (c .before .before .before .before .before .before .before .before .before .if1 .left) (c .before .before .before .before .before .before .before .before .before .before .before .pre .0) (c .before .before .before .before .before .before .before .before .if2 .left) (c .before .before .before .before .before .before .before .before .before .before .before .pre .1) _ (c .before .before .before .before .before .before .before .place-after .ensures ∙ from-start _) (c .before .before .before .before .before .before .if3 .left) _ (c .before .before .before .before .before .place-after2 .ensures) (c .before .before .before .before .if4 .left) (c .before .before .before .if5 .left) _ (c .before .before .sname-last2 .ensures) (c .before .if6 .left) _ (c .sname-last3 .ensures)
+returns-7 c =
+    let options = c .before .before .before .before .before .before .before .before in
+    let start = options .before .before .before .before .args in
+    let file : c .before .rest-after2 .result .total ≡ _ =
+    ap (λ (r : Rest). r .total) (c .before .rest-after2 .ensures) ∙ ap (λ (rs : List Rec). sizes (drop (fits 128 rs) rs)) (after-options options .records) in
+    with-both _ (sheetRecords 0 (now (start .s))) (start .permission) (options .before .before .if1 .left) (options .before .if2 .left) _ (sized options) (c .before .before .before .before .before .before .before .if3 .left) (c .before .before .before .before .before .if4 .left) (c .before .before .before .before .if5 .left) _ file _ (c .plan-if2 .ensures)
 
 pub overload-plan-spec : {M : Type 1} → statement M
 overload-plan-spec =
@@ -62,14 +93,13 @@ overload-plan-spec =
     returns
     sub-n
     returns-2
-    sub-place-after
-    place-after-requires
-    sname-last-requires
+    sub-rest-after
+    rest-after-requires
+    plan-if-requires
     returns-3
-    place-after-requires-2
     returns-4
     returns-5
-    sname-last-requires-2
     returns-6
-    sname-last-requires-3
+    rest-after-requires-2
+    plan-if-requires-2
     returns-7)

@@ -1,6 +1,6 @@
 -- `writer::write_overloaded` meets its contract. Assumes nothing.
 use denote.Ref.{now}
-use Rattle.field_writer.specs.Fill.{sheetRecords}
+use Rattle.writer.specs.Fill.{sheetRecords}
 use Rattle.writer.proofs.Trying.{none-fits, room-for, fits-by}
 use borrow.Author.Needs.{needs}
 use Rattle.writer.proofs.write_overloaded.Statement.{statement}
@@ -19,10 +19,17 @@ uses-sname-requires : tie.Need-uses-sname-requires
 uses-sname-requires c κs = search needs
 
 write-plan-requires : tie.Need-write-plan-requires
-write-plan-requires c κs = (c .before .before .before .before .before .before .before .pre .0, room-for (now (c .before .before .before .before .before .before .before .args .m)) (sheetRecords 0 (now (c .before .before .before .before .before .before .before .args .s))) (c .before .before .before .before .before .before .before .args .permission) _ (c .before .before .before .before .overload-plan .ensures) (c .before .before .before .if1 .left), c .before .uses-file .ensures, c .uses-sname .ensures)
+write-plan-requires c κs =
+    let start = c .before .before .before .before .before .before .before in (
+      start .pre .0,
+      room-for (now (start .args .m)) (sheetRecords 0 (now (start .args .s))) (start .args .permission) _ (c .before .before .before .before .overload-plan .ensures) (c .before .before .before .if1 .left),
+      start .pre .1,
+      c .before .uses-file .ensures,
+      c .uses-sname .ensures,
+    )
 
-cast-t12 : tie.Need-cast-t12
-cast-t12 c = search needs
+cast-t13 : tie.Need-cast-t13
+cast-t13 c = search needs
 
 same-length : tie.Need-same-length
 same-length c = search needs
@@ -39,6 +46,6 @@ write-overloaded-spec =
     uses-file-requires
     uses-sname-requires
     write-plan-requires
-    cast-t12
+    cast-t13
     same-length
     returns-2)

@@ -1,50 +1,93 @@
 -- The records that a field leaves over, and the records of an accepted sheet, which take all of it. Assumes nothing.
-use mathlib.Core.Path.{_≡_, refl, sym, ap, _∙_}
+use mathlib.Core.Path.{_≡_, refl, sym, ap, subst, _∙_}
 use mathlib.Core.List.{List, [], _∷_}
 use mathlib.Core.Bool.{Bool, true, false, cond}
 use Prim.Native.Nat.{ℕ, zero, suc, _+_, _-_, _*_, _<_, _≤_}
 use native.Mathlib.Omega.{arith}
-use lib.ListN.{length, take, drop, length-append}
+use lib.ListN.{length, getD, take, drop}
 use lib.Seq.{length-take-le}
-use lib.Dec.{ltb, eqb}
-use borrow.Author.Tests.{ltb-true, ltb-false, eq-eqb, ne-eqb}
+use lib.Dec.{ltb}
+use borrow.Author.Tests.{ltb-true, ltb-false}
 use Rattle.options.specs.Message.{Rec}
 use Rattle.options.specs.Reading.{among}
 use Rattle.options.specs.Kinds.{Table}
 use Rattle.options.specs.Answers.{recordBytes}
-use Rattle.options.specs.Writing.{size, fits, isNil, Sheet, sound, faulty, keep, sizeIn, recordCut, wrongTag, sheetRecord, breaksKind, sheetFrom, sheet}
-use Rattle.field_writer.specs.Fill.{sheetRecords, taken}
-use Rattle.field_writer.proofs.Sheets.{Next, next, has-room}
-use Rattle.field_writer.proofs.Filling.{taken-more}
+use Rattle.options.specs.Writing.{size, fits, Sheet, sound, faulty, keep, sizeIn, recordCut, wrongTag, sheetRecord, breaksKind, sheetFrom, sheet}
+use Rattle.writer.specs.Fill.{sheetRecords, Whole, sizes, taken}
+use Rattle.writer.specs.Writer.{restAfter}
+use Rattle.writer.specs.declared.Rest.{Rest}
+use Rattle.writer.proofs.Sheets.{Next, next, one-more}
+use Rattle.writer.proofs.Filling.{taken-more, Counting, counted}
+
+-- ---- What a field leaves over
+
+head : (a b : Rec) (rs ts : List Rec) → a ∷ rs ≡ b ∷ ts → a ≡ b
+head a b rs ts e = cc
 
 tail : (a b : Rec) (rs ts : List Rec) → a ∷ rs ≡ b ∷ ts → rs ≡ ts
 tail a b rs ts e = cc
 
--- ---- The records from the place that is given on are those left over
+-- the records from the place after it on, which is again that of a record
+pub record Over (n : ℕ) (s : List ℕ) (at : ℕ) (rs : List Rec) : Type 0 where
+  pub records : sheetRecords 0 (drop (at + taken n rs) s) ≡ drop (fits n rs) rs
+  pub whole : Whole s (at + taken n rs)
 
-pub left-over : (n : ℕ) (s : List ℕ) (at : ℕ) (rs : List Rec) → sheetRecords 0 (drop at s) ≡ rs → sheetRecords 0 (drop (at + taken n rs) s) ≡ drop (fits n rs) rs
+over : (n : ℕ) (s : List ℕ) (at : ℕ) (rs : List Rec) → sheetRecords 0 (drop at s) ≡ rs → Whole s at → taken n rs ≡ 0 → drop (fits n rs) rs ≡ rs → Over n s at rs
+over n s at rs e w t f =
+    let z : at + taken n rs ≡ at = omega (arith, t) in
+    record {
+      records = ap (λ (k : ℕ). sheetRecords 0 (drop k s)) z ∙ e ∙ sym f;
+      whole = rw z w;
+    }
+
+pub left-over : (n : ℕ) (s : List ℕ) (at : ℕ) (rs : List Rec) → sheetRecords 0 (drop at s) ≡ rs → Whole s at → Over n s at rs
 unfolding fits taken recordBytes
-left-over n s at [] e =
-    let z : at + 0 ≡ at = omega arith in
-    ap (λ (k : ℕ). sheetRecords 0 (drop k s)) z ∙ e
-left-over n s at (r ∷ rs) e = go (ltb (size r) n) refl (left-over (n - size r) s (at + (length (r .body) + 3)) rs)
+left-over n s at [] e w = over n s at [] e w refl refl
+left-over n s at (r ∷ rs) e w = go (ltb (size r) n) refl (left-over (n - size r) s (at + (getD s (at + 2) 0 + 2 + 1)) rs)
   where
+    -- the sheet has a record there
+    some : at < length s
+    some =
+        let f : length (recordBytes (sheetRecords 0 (drop at s))) ≡ length (r .body) + 3 + length (recordBytes rs) = ap (λ (ts : List Rec). length (recordBytes ts)) e ∙ one-more r rs in
+        omega (arith, f, w)
+
+    x : Next s at (getD s (at + 2) 0 + 2)
+    x = next s at w some (getD s (at + 2) 0) refl
+
     go : (b : Bool) → ltb (size r) n ≡ b
-        → (sheetRecords 0 (drop (at + (length (r .body) + 3)) s) ≡ rs → sheetRecords 0 (drop (at + (length (r .body) + 3) + taken (n - size r) rs) s) ≡ drop (fits (n - size r) rs) rs)
-        → sheetRecords 0 (drop (at + taken n (r ∷ rs)) s) ≡ drop (fits n (r ∷ rs)) (r ∷ rs)
+        → (sheetRecords 0 (drop (at + (getD s (at + 2) 0 + 2 + 1)) s) ≡ rs → Whole s (at + (getD s (at + 2) 0 + 2 + 1)) → Over (n - size r) s (at + (getD s (at + 2) 0 + 2 + 1)) rs)
+        → Over n s at (r ∷ rs)
     go true t ih =
         let h : size r < n = ltb-true (size r) n t in
-        let k : ℕ = length (r .body) + 3 in
-        let x : Next s at n (length (r .body) + 3) = next s at n (length (r .body) + 3) (has-room n (length (r .body)) r rs (sheetRecords 0 (drop at s)) e refl (omega arith)) (λ z. omega arith) in
-        let f : sheetRecords 0 (drop (at + (length (r .body) + 3)) s) ≡ rs = sym (tail r _ rs _ (sym e ∙ x .first)) in
-        let g : at + taken n (r ∷ rs) ≡ at + (length (r .body) + 3) + taken (n - size r) rs = omega (arith, taken-more n r rs h) in
-        ap (λ (i : ℕ). sheetRecords 0 (drop i s)) g ∙ ih f ∙ (rw t)
-    go false t ih =
-        let g : at + taken n (r ∷ rs) ≡ at = omega (arith, none t) in
-        ap (λ (i : ℕ). sheetRecords 0 (drop i s)) g ∙ e ∙ (rw t)
-      where
-        none : ltb (size r) n ≡ false → taken n (r ∷ rs) ≡ 0
-        none t = rw t
+        let len : length (r .body) ≡ getD s (at + 2) 0 + 2 - 2 = ap (λ (q : Rec). length (q .body)) (head r _ rs _ (sym e ∙ x .first)) ∙ x .long in
+        let o : Over (n - size r) s (at + (getD s (at + 2) 0 + 2 + 1)) rs = ih (sym (tail r _ rs _ (sym e ∙ x .first))) (x .whole) in
+        let g : at + taken n (r ∷ rs) ≡ at + (getD s (at + 2) 0 + 2 + 1) + taken (n - size r) rs = omega (arith, taken-more n r rs h, len) in
+        record {
+          records = ap (λ (i : ℕ). sheetRecords 0 (drop i s)) g ∙ o .records ∙ (rw t);
+          whole = subst (λ (i : ℕ). Whole s i) (sym g) (o .whole);
+        }
+    go false t ih = over n s at (r ∷ rs) e w (rw t) (rw t)
+
+-- the same of what `rest_after` gives
+pub record Remains (n : ℕ) (s : List ℕ) (at : ℕ) (r : Rest) : Type 0 where
+  pub records : sheetRecords 0 (drop (r .place) s) ≡ drop (fits n (sheetRecords 0 (drop at s))) (sheetRecords 0 (drop at s))
+  pub whole : Whole s (r .place)
+  pub total : r .total ≡ sizes (sheetRecords 0 (drop (r .place) s))
+
+pub remains : (n : ℕ) (s : List ℕ) (at : ℕ) (r : Rest) → Whole s at → r ≡ restAfter n s at → Remains n s at r
+remains n s at r w e =
+    let o : Over n s at (sheetRecords 0 (drop at s)) = left-over n s at (sheetRecords 0 (drop at s)) refl w in
+    rw e (record { records = o .records; whole = o .whole; total = ap sizes (sym (o .records)) })
+
+-- once no more goes in, what is left of their size is that of the records left over
+pub left-size : (room : ℕ) (s : List ℕ) (from at left n : ℕ) → Whole s from → n ≡ sizes (sheetRecords 0 (drop from s)) → Counting room s from at left → fits left (sheetRecords 0 (drop at s)) ≡ 0
+    → n - (room - left) ≡ sizes (drop (fits room (sheetRecords 0 (drop from s))) (sheetRecords 0 (drop from s)))
+left-size room s from at left n w e f z =
+    let o : Over room s from (sheetRecords 0 (drop from s)) = left-over room s from (sheetRecords 0 (drop from s)) refl w in
+    let p : sheetRecords 0 (drop at s) ≡ drop (fits room (sheetRecords 0 (drop from s))) (sheetRecords 0 (drop from s)) =
+    ap (λ (i : ℕ). sheetRecords 0 (drop i s)) (counted room s from at left f z) ∙ o .records in
+    let k : n - (room - left) ≡ sizes (sheetRecords 0 (drop at s)) = omega (arith, e, f .sum) in
+    k ∙ ap sizes p
 
 -- ---- The records of an accepted sheet
 
@@ -97,10 +140,6 @@ accepted-records t s rs e = from-sheet t [] 0 0 s rs e
 
 -- ---- They take all of it
 
-one-more : (r : Rec) (rs : List Rec) → length (recordBytes (r ∷ rs)) ≡ length (r .body) + 3 + length (recordBytes rs)
-unfolding recordBytes
-one-more r rs = omega (arith, length-append (r .body) (recordBytes rs))
-
 full : (b : ℕ) (bs : List ℕ) (n : ℕ) → recordCut bs ≡ false → n ≡ length bs - suc (suc (sizeIn bs)) → length (sheetRecord b bs .body) + 3 + n ≡ suc (length bs)
 full b [] n e q = clash (cc)
 full b (h ∷ []) n e q = clash (cc)
@@ -124,35 +163,8 @@ sheet-length t seen at (suc k) (b ∷ bs) rs e =
     let z : length bs - k ≡ suc (length bs) - suc k = omega arith in
     sheet-length t seen (at + 1) k bs rs e ∙ z
 
--- the records from a place on take the rest of the sheet
-abbrev pub Whole : List ℕ → ℕ → Type 0
-Whole s at = at + length (recordBytes (sheetRecords 0 (drop at s))) ≡ length s
-
 pub accepted-whole : (t : Table) (s : List ℕ) (rs : List Rec) → sheet t s ≡ sound rs → Whole s 0
 unfolding sheet
 accepted-whole t s rs e =
     let f : length (recordBytes (sheetRecords 0 s)) ≡ length s - 0 = ap (λ (ts : List Rec). length (recordBytes ts)) (accepted-records t s rs e) ∙ sheet-length t [] 0 0 s rs e in
     omega (arith, f)
-
-split : (k : ℕ) (rs : List Rec) → length (recordBytes (take k rs)) + length (recordBytes (drop k rs)) ≡ length (recordBytes rs)
-unfolding recordBytes
-split zero rs = omega arith
-split (suc k) [] = refl
-split (suc k) (r ∷ rs) = omega (arith, split k rs, one-more r (take k rs), one-more r rs)
-
-pub whole-after : (n : ℕ) (s : List ℕ) (at : ℕ) → Whole s at → Whole s (at + taken n (sheetRecords 0 (drop at s)))
-unfolding taken
-whole-after n s at w =
-    let rs : List Rec = sheetRecords 0 (drop at s) in
-    let f : length (recordBytes (sheetRecords 0 (drop (at + taken n rs) s))) ≡ length (recordBytes (drop (fits n rs) rs)) = ap (λ (ts : List Rec). length (recordBytes ts)) (left-over n s at rs refl) in
-    omega (arith, f, split (fits n rs) rs, w)
-
--- so none is left over exactly at the sheet's end
-pub none-left : (s : List ℕ) (at : ℕ) (rs : List Rec) → sheetRecords 0 (drop at s) ≡ rs → Whole s at → isNil rs ≡ eqb at (length s)
-unfolding recordBytes
-none-left s at [] e w =
-    let f : length (recordBytes (sheetRecords 0 (drop at s))) ≡ 0 = ap (λ (ts : List Rec). length (recordBytes ts)) e in
-    sym (eq-eqb at (length s) (omega (arith, f, w)))
-none-left s at (r ∷ rs) e w =
-    let f : length (recordBytes (sheetRecords 0 (drop at s))) ≡ length (r .body) + 3 + length (recordBytes rs) = ap (λ (ts : List Rec). length (recordBytes ts)) e ∙ one-more r rs in
-    sym (ne-eqb at (length s) (λ q. omega (arith, f, w, q)))

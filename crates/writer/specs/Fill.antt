@@ -1,8 +1,9 @@
 -- A field filled from a sheet: the records from a place of the sheet on, the field's bytes, the place after the records that went there. Assumes nothing.
+use mathlib.Core.Path.{_≡_}
 use mathlib.Core.List.{List, [], _∷_}
 use mathlib.Core.Bool.{cond}
 use Prim.Native.Nat.{ℕ, zero, suc, _+_, _-_}
-use lib.ListN.{length, take}
+use lib.ListN.{length, take, drop}
 use lib.Dec.{ltb, eqb}
 use Rattle.options.specs.Message.{Rec}
 use Rattle.options.specs.Answers.{recordBytes}
@@ -15,15 +16,19 @@ sheetRecords zero (b ∷ bs) = cond (recordCut bs) [] (cond (ltb 255 (sizeIn bs)
 sheetRecords (suc skip) [] = []
 sheetRecords (suc skip) (b ∷ bs) = sheetRecords skip bs
 
+-- the records from a place on take the rest of the sheet: so it is in an accepted one, at the place of a record
+abbrev pub Whole : List ℕ → ℕ → Type 0
+Whole s at = at + length (recordBytes (sheetRecords 0 (drop at s))) ≡ length s
+
+-- the bytes that the options of the records take
+unfoldable pub sizes : List Rec → ℕ
+sizes [] = 0
+sizes (r ∷ rs) = size r + sizes rs
+
 -- a field of n bytes with the records that fit; one without a byte stays so
 unfoldable pub filled : ℕ → List Rec → List ℕ
 unfolding fits fieldBytes
 filled n rs = cond (eqb n 0) [] (fieldBytes n (take (fits n rs) rs))
-
--- how many bytes of the sheet the first record takes, where it fits
-unfoldable pub nextSize : ℕ → List Rec → ℕ
-nextSize n [] = 0
-nextSize n (r ∷ rs) = cond (ltb (size r) n) (length (r .body) + 3) 0
 
 -- how many bytes of the sheet the records that fit take
 unfoldable pub taken : ℕ → List Rec → ℕ

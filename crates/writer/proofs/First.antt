@@ -1,7 +1,7 @@
 -- Option 52 before the records. Assumes nothing.
-use mathlib.Core.Path.{_≡_, refl, sym, ap, ap₂, _∙_}
+use mathlib.Core.Path.{_≡_, sym, ap, ap₂, _∙_}
 use mathlib.Core.List.{List, [], _∷_, _++_}
-use Prim.Native.Nat.{ℕ, _+_, _-_, _<_, _≤_}
+use Prim.Native.Nat.{ℕ, _+_, _-_, _≤_}
 use native.Mathlib.Omega.{arith}
 use lib.ListN.{length, take, drop, set, length-drop}
 use lib.Seq.{sets-eq, length-sets}
@@ -9,21 +9,12 @@ use borrow.Rule.Slice.PartMut.{putMid, midOf}
 use borrow.Author.Tests.{ne-eqb}
 use Rattle.options.specs.Message.{Rec}
 use Rattle.options.specs.Writing.{with52}
-use Rattle.field_writer.specs.Fill.{nextSize, filled, taken, past52}
+use Rattle.writer.specs.Fill.{filled, taken, past52}
 use Rattle.buffer.proofs.Copied.{mid-rest, put-rest}
-use Rattle.field_writer.proofs.Sheets.{no-room}
-use Rattle.field_writer.proofs.Filling.{fill-more, ends}
+use Rattle.writer.proofs.Filling.{fill-more}
 
 abbrev pub option52 : ℕ → Rec
 option52 p = record { tag = 52; body = p ∷ [] }
-
-pub nothing-fits : (rs : List Rec) → taken 0 rs ≡ 0
-unfolding nextSize
-nothing-fits rs = ends 0 rs (none rs) .1
-  where
-    none : (rs : List Rec) → nextSize 0 rs ≡ 0
-    none [] = refl
-    none (r ∷ rs) = sym (no-room 0 (length (r .body)) r rs (r ∷ rs) refl refl (omega arith))
 
 pub from-start : (k : ℕ) → 0 + k ≡ k
 from-start k = omega arith
@@ -38,14 +29,6 @@ module _ (p : ℕ) (rs : List Rec) (z : p ≡ 0 → ⊥) where
 
   pub rest : (n : ℕ) → past52 p n ≡ n - 3
   rest n = rw (ne-eqb p 0 z)
-
-  -- no room for it
-  pub shut : (n : ℕ) (ys : List ℕ) → n < 4 → ys ≡ filled n [] → (ys ≡ filled n (with52 p rs)) × (0 ≡ taken (past52 p n) rs)
-  shut n ys h y =
-      let k : n - 3 ≡ 0 = omega arith in (
-        y ∙ sym (ends n (option52 p ∷ rs) (sym (no-room n 1 (option52 p) rs (option52 p ∷ rs) refl refl (omega arith))) .0) ∙ ap (filled n) (sym first),
-        sym (ap (λ (i : ℕ). taken i rs) (rest n ∙ k) ∙ nothing-fits rs),
-      )
 
   -- written, and the records after it
   module _ (field ys : List ℕ) (h : 4 ≤ length field) where

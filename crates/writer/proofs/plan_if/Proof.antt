@@ -1,0 +1,13 @@
+-- `writer::plan_if` meets its contract. Assumes nothing.
+use borrow.Author.Tests.{lt-ltb, le-ltb}
+use Rattle.writer.proofs.plan_if.Statement.{statement}
+use Rattle.writer.proofs.plan_if.Tie as tie
+
+returns : tie.Need-returns
+returns c = rw (lt-ltb _ _ (c .if1 .taken))
+
+returns-2 : tie.Need-returns-2
+returns-2 c = rw (le-ltb _ _ (c .if1 .left))
+
+pub plan-if-spec : {M : Type 1} → statement M
+plan-if-spec = tie.close (tie.spec returns returns-2)

@@ -1,14 +1,14 @@
 -- Laws of one word and of the four words. Assumes nothing.
-use mathlib.Core.Path.{_≡_, refl, sym, ap, _∙_, subst}
-use mathlib.Core.Bool.{Bool, true, false}
+use mathlib.Core.Path.{_≡_, refl, sym, ap, _∙_}
+use mathlib.Core.Bool.{true, false}
 use mathlib.Core.List.{List, [], _∷_}
-use Prim.Native.Nat.{ℕ, zero, suc, _+_, _-_, _*_, _/_, _%_, _^_, _≤_, _<_, max, suc-le-suc}
+use Prim.Native.Nat.{ℕ, zero, suc, _+_, _-_, _*_, _/_, _%_, _^_, _≤_, _<_, suc-le-suc}
 use native.Mathlib.Nat.{le-of-suc-le-suc, not-suc-le-zero, mod-eq-of-lt, one-mul, div-div-eq-div-mul, pow-suc, pow-succ', max-eq-right, max-zero}
 use mathlib.Core.Logic.{_⊎_, inl, inr, ⊎-elim}
 use native.Mathlib.Omega.{arith}
 use lib.Dec.{eqb}
 use native.Mathlib.Decide.{ℕ-discrete as decEq}
-use lib.Pow.{pow-lt, pow-pos}
+use lib.Pow.{pow-lt}
 use lib.Bits.{bitOr, or-step, or-zero-r}
 use lib.Count.{ones, ones-step, trailingZeros}
 use lib.ListN.{length, getD, set, drop, drop-of-length-le}

@@ -11,7 +11,7 @@ use borrow.Author.Tests.{eq-eqb, ne-eqb}
 use Rattle.options.specs.Message.{file, sname, bytes}
 use Rattle.options.specs.Reading.{fileIn, snameIn}
 use Rattle.wire.specs.Walk.{Walk}
-use Rattle.wire.specs.Walk.{Walks, walkField, walkedOf}
+use Rattle.wire.specs.Walk.{Walks, walkedOf}
 use Rattle.wire.specs.declared.Walked as flat
 use Rattle.message.specs.Scan.{Fields}
 use Rattle.message.specs.Scan.{stopAt, joined, walkIf, Goes, Gives, lastField, furtherFields, fieldsOf}

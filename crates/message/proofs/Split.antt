@@ -1,20 +1,19 @@
 -- What a scan tells of an accepted message: its options, field by field, the wanted one, and the value of option 52. Assumes nothing.
-use mathlib.Core.Path.{_≡_, refl, sym, ap, ap₂, _∙_, subst}
+use mathlib.Core.Path.{_≡_, refl, sym, ap, ap₂, _∙_}
 use mathlib.Core.Bool.{Bool, true, false, cond}
 use mathlib.Core.List.{List, [], _∷_, _++_, append-assoc, append-nil}
 use mathlib.Core.Logic.{inl, inr}
 use mathlib.Core.Option.{Option, none, some}
-use Prim.Native.Nat.{ℕ, zero, suc, _+_, _-_, _≤_, _<_}
+use Prim.Native.Nat.{ℕ, _+_, _-_, _≤_, _<_}
 use native.Mathlib.Omega.{arith}
 use lib.Dec.{eqb, ltb}
 use lib.ListN.{length, getD, set, take, drop, length-set, replicate}
-use lib.Seq.{getD-set-other}
-use borrow.Author.Tests.{eq-eqb, ne-eqb, eqb-true, eqb-false, ltb-false}
+use borrow.Author.Tests.{ne-eqb, eqb-true, eqb-false, ltb-false}
 use Rattle.options.specs.Message.{Field, options, file, sname, start, bytes, cookie, Opt, dataStart}
 use Rattle.options.specs.Reading.{Parse, ended, ranOut, beyond, found, parse, wrong52, among, judge, more, Reading, accepted, refused, items, seenAfter, join, extend, overload, overloadOf, fileIn, snameIn, allFields, same, readMessage, find}
 use Rattle.options.specs.ReadingClaims.{In, Precedes}
 use Rattle.options.specs.CodeSet.{noCodes, countOf, marked, withMark}
-use Rattle.options.specs.Answers.{wordsOf, present, presentIn}
+use Rattle.options.specs.Answers.{wordsOf, present}
 use Rattle.options.specs.KindClaims.{AllBytes}
 use Rattle.codeset.proofs.Words.{mark-other, mark-swap, mark-least, mark-clear}
 use Rattle.theorems.proofs.CodesPresent.{marks-of, seen-length, no-code-twice, present-is}

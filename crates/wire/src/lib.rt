@@ -1,7 +1,7 @@
 // The walk of one field of a message (document 01, The message and its fields): one walk for options, file and sname. All offsets are in the field.
 ghost use mathlib.Core.Path.{_≡_};
 ghost use mathlib.Core.Bool.{false};
-ghost use Prim.Native.Nat.{_+_, _*_, _<_, _≤_, _/_};
+ghost use Prim.Native.Nat.{_+_, _<_, _≤_, _/_};
 ghost use lib.ListN.{length, getD, drop};
 ghost use Rattle.options.specs.Message.{start};
 ghost use Rattle.options.specs.Reading.{parse};

@@ -2,10 +2,10 @@
 use borrow.Author.Needs.{needs}
 use native.Mathlib.Omega.{arith}
 use mathlib.Core.Path.{_≡_, ap, _∙_}
-use Prim.Native.Nat.{_≤_, _+_}
+use Prim.Native.Nat.{_≤_}
 use lib.ListN.{length, drop, length-drop}
-use Rattle.options.specs.Message.{file, sname, bytes}
-use Rattle.options.specs.Reading.{fileIn, snameIn}
+use Rattle.options.specs.Message.{file, bytes}
+use Rattle.options.specs.Reading.{fileIn}
 use Rattle.wire.specs.declared.Walked as flat
 use Rattle.message.specs.Scan.{joined, walkIf, furtherFields, fieldsOf, Goes}
 use Rattle.message.proofs.Laws.{take-rest, joined-used, fields-are, fields-alone, fields-fault, fields-all}

@@ -1,6 +1,5 @@
 -- `message::join` meets its contract. Assumes nothing.
 use borrow.Author.Needs.{needs}
-use mathlib.Core.Path.{_∙_}
 use borrow.Author.Tests.{eq-eqb, ne-eqb}
 use Rattle.message.proofs.join.Statement.{statement}
 use Rattle.message.proofs.join.Tie as tie

@@ -1,7 +1,6 @@
 -- `message::scan` meets its contract. Assumes nothing.
 use borrow.Author.Needs.{needs}
 use mathlib.Core.Path.{_≡_, sym, ap, _∙_}
-use Prim.Native.Nat.{ℕ}
 use Rattle.options.specs.KindClaims.{AllBytes}
 use Rattle.message.specs.Scan.{stopAt, unfitOf}
 use Rattle.message.proofs.Bridge.{all-bytes}

@@ -5,8 +5,7 @@ use mathlib.Core.Path.{_≡_, refl, sym, ap, _∙_}
 use mathlib.Core.Bool.{true, false}
 use mathlib.Core.List.{List}
 use mathlib.Core.Logic.{⊎-elim}
-use Prim.Native.Nat.{ℕ, _≤_, _<_, _-_, _+_, _/_, _%_, _^_}
-use lib.Bits.{bitOr}
+use Prim.Native.Nat.{ℕ, _≤_, _<_, _-_, _+_, _/_, _%_}
 use lib.ListN.{length, getD, take, drop, length-set}
 use Rattle.options.specs.CodeSet.{marked, withMark}
 use Rattle.options.specs.Reading.{found}

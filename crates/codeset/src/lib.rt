@@ -5,7 +5,7 @@ ghost use lib.ListN.{length};
 ghost use Rattle.options.specs.CodeSet.{marked, withMark, countOf, lowestOf};
 
 // The word of a code.
-fn word(c: u8) -> usize
+pub fn word(c: u8) -> usize
     ensures { λ r. ⌜ (r ≡ c / 64) × (r < 4) ⌝ }
 {
     (c / 64) as usize

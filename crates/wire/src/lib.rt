@@ -1,7 +1,7 @@
 // The walk of one field of a message (document 01, The message and its fields): one walk for options, file and sname. All offsets are in the field.
 ghost use mathlib.Core.Path.{_≡_};
 ghost use mathlib.Core.Bool.{false};
-ghost use Prim.Native.Nat.{_+_, _<_, _≤_, _/_};
+ghost use Prim.Native.Nat.{_+_, _<_, _≤_};
 ghost use lib.ListN.{length, getD, drop};
 ghost use Rattle.options.specs.Message.{start};
 ghost use Rattle.options.specs.Reading.{parse};
@@ -42,13 +42,6 @@ fn wide(x: u8) -> usize
     ensures { λ r. ⌜ (r ≡ x) × (r < 256) ⌝ }
 {
     x as usize
-}
-
-// The word of a code in a set of codes.
-fn word(c: u8) -> usize
-    ensures { λ r. ⌜ (r ≡ c / 64) × (r < 4) ⌝ }
-{
-    (c / 64) as usize
 }
 
 // Where the data of the wanted code start, after an option with code c whose data start at j.
@@ -162,7 +155,7 @@ pub fn walk(options: bool, f: &[u8], want: u8, seen: &mut [u64; 4]) -> Walked
     let mut i: usize = 0;
     while i < f.len() {
         let c = f[i];
-        let k = word(c);
+        let k = codeset::word(c);
         let old = seen[k];
         let new = old | (1u64 << (c % 64));
         if new == old {

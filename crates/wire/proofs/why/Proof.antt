@@ -1,12 +1,12 @@
 -- `wire::why` meets its contract. Assumes nothing.
 use borrow.Author.Needs.{needs}
 use native.Mathlib.Omega.{arith}
-use mathlib.Core.Path.{_≡_, refl, sym, _∙_}
-use mathlib.Core.Bool.{true, false}
+use mathlib.Core.Path.{_≡_, refl}
+use mathlib.Core.Bool.{cond}
 use Prim.Native.Nat.{_<_, _≤_, _+_}
 use lib.ListN.{length, getD}
-use Rattle.wire.specs.Walk.{itemAt, overWrong}
-use Rattle.wire.proofs.Laws.{rest-none, rest-end, rest-last, rest-long, rest-found}
+use Rattle.wire.specs.Walk.{whyAt}
+use Rattle.wire.proofs.Laws.{rest, rest-none, rest-end, rest-last, rest-long, rest-found}
 use Rattle.wire.proofs.why.Statement.{statement}
 use Rattle.wire.proofs.why.Tie as tie
 
@@ -54,29 +54,23 @@ returns-4 c =
 over-wrong-requires : tie.Need-over-wrong-requires
 over-wrong-requires c κs = search needs
 
-returns-5 : tie.Need-returns-5
-returns-5 c =
-    let s = c .before .before .before .before .before .before .before .before .before .before in
+-- the option is whole
+here : (c : tie.After-over-wrong) → cond (c .over-wrong .result) 6 7 ≡ whyAt (c .before .before .before .before .before .before .before .before .before .args .options) (rest (c .before .before .before .before .before .before .before .before .before .args .f .now) (c .before .before .before .before .before .before .before .before .before .args .i))
+here c =
+    let s = c .before .before .before .before .before .before .before .before .before in
     let a = s .args in
     let f = a .f .now in
     let i = a .i in
-    let w = c .before .before .before .wide .ensures .0 in
-    let h : i < length f = omega (arith, c .before .before .before .before .before .before .before .before .if1 .left) in
-    let n : i + 2 + getD f (i + 1) 0 ≤ length f = omega (arith, c .before .before .if4 .left, w) in
-    let o : overWrong (a .options) (itemAt (getD f i 0) (getD f (i + 1) 0) f i) ≡ true = rw (← w) (sym (c .before .over-wrong .ensures) ∙ c .if5 .taken) in
-    rw (rest-found f i h (s .pre h) (c .before .before .before .before .before .before .if2 .left) (omega (arith, c .before .before .before .before .before .if3 .left)) n, o) refl
+    let w = c .before .before .wide .ensures .0 in
+    let h : i < length f = omega (arith, c .before .before .before .before .before .before .before .if1 .left) in
+    let n : i + 2 + getD f (i + 1) 0 ≤ length f = omega (arith, c .before .if4 .left, w) in
+    rw (rest-found f i h (s .pre h) (c .before .before .before .before .before .if2 .left) (omega (arith, c .before .before .before .before .if3 .left)) n, c .over-wrong .ensures, w) refl
+
+returns-5 : tie.Need-returns-5
+returns-5 c = rw (c .if5 .taken) at (here (c .before))
 
 returns-6 : tie.Need-returns-6
-returns-6 c =
-    let s = c .before .before .before .before .before .before .before .before .before .before in
-    let a = s .args in
-    let f = a .f .now in
-    let i = a .i in
-    let w = c .before .before .before .wide .ensures .0 in
-    let h : i < length f = omega (arith, c .before .before .before .before .before .before .before .before .if1 .left) in
-    let n : i + 2 + getD f (i + 1) 0 ≤ length f = omega (arith, c .before .before .if4 .left, w) in
-    let o : overWrong (a .options) (itemAt (getD f i 0) (getD f (i + 1) 0) f i) ≡ false = rw (← w) (sym (c .before .over-wrong .ensures) ∙ c .if5 .left) in
-    rw (rest-found f i h (s .pre h) (c .before .before .before .before .before .before .if2 .left) (omega (arith, c .before .before .before .before .before .if3 .left)) n, o) refl
+returns-6 c = rw (c .if5 .left) at (here (c .before))
 
 pub why-spec : {M : Type 1} → statement M
 why-spec =

@@ -15,7 +15,7 @@ pub fn word(c: u8) -> usize
 fn has(w: [u64; 4], c: u8) -> bool
     ensures { λ r. ⌜ (r ≡ marked w c) × (length w ≡ 4) ⌝ }
 {
-    let k = (c / 64) as usize;
+    let k = word(c);
     let x = w[k];
     (x >> (c % 64)) % 2 == 1
 }

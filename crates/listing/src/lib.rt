@@ -4,10 +4,9 @@ ghost use mathlib.Core.List.{[], _∷_, _++_};
 ghost use Prim.Native.Nat.{_+_, _<_, _≤_};
 ghost use lib.ListN.{length, drop};
 ghost use Rattle.options.specs.Answers.{decimal, refusedLine, acceptedLine, linesOf, listing};
-ghost use Rattle.wire.specs.Walk.{fieldOf};
-ghost use Rattle.message.specs.Fields.{fieldOptions, onlyIf};
+ghost use Rattle.message.specs.Fields.{fieldOf, fieldOptions, onlyIf};
 ghost use Rattle.listing.specs.Text.{Puts, lineText, acceptedText};
-use wire::Field;
+use message::Field;
 use wire::Spot;
 
 // Each of these writes a text into the buffer from `at` on, or from its first byte on, and gives the index after it.
@@ -64,7 +63,7 @@ fn put_field(out: &mut [u8], at: usize, field: Field, f: &[u8]) -> usize
         let Spot::Item { offset, code, len } = wire::next_option(f, i) else {
             return o;
         };
-        let start = wire::base(field) + offset + 2;
+        let start = message::base(field) + offset + 2;
         o = put_line(out, o, code, start, len);
         i = offset + 2 + len;
     }

@@ -3,6 +3,7 @@ ghost use mathlib.Core.Path.{_≡_};
 ghost use Prim.Native.Nat.{_≤_, _<_, _+_, _-_};
 ghost use lib.ListN.{length, getD};
 ghost use Rattle.message.specs.Scan.{scanOf};
+ghost use Rattle.message.specs.Part.{partAt};
 ghost use Rattle.options.specs.Kinds.{kinds};
 ghost use Rattle.options.specs.CodeSet.{marked};
 ghost use Rattle.options.specs.Answers.{lookup, bytesOf, dataOf, textIn, textOf};
@@ -182,9 +183,9 @@ pub fn data_extent(m: &[u8], code: u8) -> Extent
     data_in(m, w.start)
 }
 
-// The data bytes of a code, as a part of the message; empty when the code is absent or the call is refused.
+// The data bytes of a code, as a part of the message, at their own place; empty when the code is absent or the call is refused.
 pub fn data(m: &[u8], code: u8) -> &[u8]
-    ensures { λ r. ⌜ now r ≡ bytesOf (now (m .entry)) (dataOf (now (m .entry)) code) ⌝ }
+    ensures { λ r. ⌜ (now r ≡ bytesOf (now (m .entry)) (dataOf (now (m .entry)) code)) × (r .ptr .0 ≡ m .entry .ptr .0) × (r .ptr .1 ≡ partAt (length (now (m .entry))) (dataOf (now (m .entry)) code .start) + m .entry .ptr .1) ⌝ }
 {
     let e = data_extent(m, code);
     message::part(m, e.start, e.len)
@@ -222,9 +223,9 @@ pub fn text_extent(m: &[u8], known: [u64; 4], code: u8) -> Extent
     text_in(m, known, code, w.start)
 }
 
-// The text of a code, as a part of the message; empty unless the lookup answers text.
+// The text of a code, as a part of the message, at its own place; empty unless the lookup answers text.
 pub fn text(m: &[u8], known: [u64; 4], code: u8) -> &[u8]
-    ensures { λ r. ⌜ now r ≡ bytesOf (now (m .entry)) (textOf (marked known) (now (m .entry)) code) ⌝ }
+    ensures { λ r. ⌜ (now r ≡ bytesOf (now (m .entry)) (textOf (marked known) (now (m .entry)) code)) × (r .ptr .0 ≡ m .entry .ptr .0) × (r .ptr .1 ≡ partAt (length (now (m .entry))) (textOf (marked known) (now (m .entry)) code .start) + m .entry .ptr .1) ⌝ }
 {
     let e = text_extent(m, known, code);
     message::part(m, e.start, e.len)

@@ -3,7 +3,15 @@ use mathlib.Core.Bool.{Bool, true, false}
 use mathlib.Core.List.{List, [], _∷_, _++_}
 use Prim.Native.Nat.{ℕ}
 use Rattle.options.specs.Message.{Field, options, file, sname, bytes, Rec, Opt}
+use Rattle.message.specs.declared.Field as coded
+use Rattle.message.specs.declared.Field.the-variants.{Options, File, Sname}
 use Rattle.options.specs.Reading.{Parse, ended, ranOut, beyond, found, parse, fileIn, snameIn}
+
+-- the fields, case by case
+abbrev pub fieldOf : coded.Field → Field
+fieldOf Options = options
+fieldOf File = file
+fieldOf Sname = sname
 
 -- every option that is found, wherever the walk ends
 unfoldable pub optionsIn : Field → Parse → List Opt

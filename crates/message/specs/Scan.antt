@@ -74,13 +74,13 @@ pub record Fields : Type 0 where
   pub kept : flat.Walked
   pub seen : List ℕ
 
--- sname, after a file b that was kept
+-- sname, after what options and file gave (b); a refusal is handed on
 abbrev pub lastField : ℕ → List ℕ → ℕ → flat.Walked → List ℕ → Fields
 lastField want m v b w =
     let s : Walk = walkIf (snameIn v) want w (bytes sname m) in
     cond (eqb (b .number) 0) (record { kept = joined 44 (walkedOf s) b; seen = s .state .seen }) (record { kept = b; seen = w })
 
--- file and sname, after options a that were kept
+-- file and sname, after what options gave (a); without option 52 that is all, and a refusal tells of none
 abbrev pub furtherFields : ℕ → List ℕ → flat.Walked → List ℕ → Fields
 furtherFields want m a w =
     let f : Walk = walkIf (fileIn (a .over)) want w (bytes file m) in

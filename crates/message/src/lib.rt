@@ -1,17 +1,36 @@
 // One walk over a whole message (document 01, The message and its fields): the length and the cookie, then options, file and sname.
 ghost use mathlib.Core.Path.{_≡_};
 ghost use mathlib.Core.Bool.{cond};
-ghost use Prim.Native.Nat.{_≤_};
+ghost use Prim.Native.Nat.{_+_, _≤_};
 ghost use lib.Dec.{eqb};
 ghost use lib.ListN.{length, take, drop};
-ghost use Rattle.options.specs.Message.{cookie};
+ghost use Rattle.options.specs.Message.{start, cookie};
 ghost use Rattle.options.specs.Reading.{same, fileIn, snameIn};
+ghost use Rattle.message.specs.Fields.{fieldOf};
+ghost use Rattle.message.specs.Part.{partAt};
 ghost use Rattle.message.specs.Scan.{stopAt, scanOf, Scans, unfitOf, either0, joined, walkIf, fieldsOf, Goes, Gives};
 use wire::Walked;
 
-// The len bytes from start on, or those of them that there are.
+pub enum Field {
+    Options,
+    File,
+    Sname,
+}
+
+// The place of a field's first byte in the message.
+pub fn base(field: Field) -> usize
+    ensures { λ r. ⌜ (r ≡ start (fieldOf field)) × (r ≤ 240) ⌝ }
+{
+    match field {
+        Field::Options => 240,
+        Field::File => 108,
+        Field::Sname => 44,
+    }
+}
+
+// The len bytes from start on, or those of them that there are: as a slice of m itself.
 pub fn part(m: &[u8], start: usize, len: usize) -> &[u8]
-    ensures { λ r. ⌜ now r ≡ take len (drop start (now (m .entry))) ⌝ }
+    ensures { λ r. ⌜ (now r ≡ take len (drop start (now (m .entry)))) × (r .ptr .0 ≡ m .entry .ptr .0) × (r .ptr .1 ≡ partAt (length (now (m .entry))) start + m .entry .ptr .1) ⌝ }
 {
     if m.len() <= start {
         return &m[..0];

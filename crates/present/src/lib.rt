@@ -2,6 +2,7 @@
 ghost use mathlib.Core.Path.{_≡_};
 ghost use Rattle.options.specs.Answers.{present};
 ghost use Rattle.present.specs.Marked.{codesOf};
+
 // The set of the codes present, 52 included, how many they are, the lowest of them (0 if none), and number and place of a refusal: then the others are 0.
 pub struct Codes {
     pub words: [u64; 4],

@@ -1,4 +1,6 @@
 // The lines of the output, each from the call that it shows.
+ghost use mathlib.Core.Path.{_≡_};
+ghost use Rattle.options.specs.Answers as answers;
 use console::number;
 use console::one;
 use console::sum;
@@ -71,7 +73,9 @@ pub fn present(p: Codes) {
 }
 
 // The line of the records that are written to a lent buffer.
-pub fn records(m: &[u8], sheet: &mut [u8]) {
+pub fn records(m: &[u8], sheet: &mut [u8])
+    ensures { λ _. ⌜ now (sheet .exit) ≡ answers.records (now (m .entry)) (now (sheet .entry)) .buffer ⌝ }
+{
     match records::records(m, sheet) {
         Given::Refused { number, place } => two(b"records refused", number as usize, place),
         Given::Bytes(n) => {

@@ -5,19 +5,10 @@ use mathlib.Core.List.{List}
 use Prim.Native.Nat.{ℕ, _+_, _-_, _≤_}
 use lib.Dec.{eqb}
 use lib.ListN.{length, getD, take, drop}
-use Rattle.options.specs.Message.{options, file, sname, Rec}
-use Rattle.options.specs.Message as message
+use Rattle.options.specs.Message.{Rec}
 use Rattle.options.specs.Reading.{Parse, ended, ranOut, beyond, found, parse, right52}
 use Rattle.options.specs.CodeSet.{marked, withMark}
-use Rattle.wire.specs.declared.Field.{Field}
-use Rattle.wire.specs.declared.Field.the-variants.{Options, File, Sname}
 use Rattle.wire.specs.declared.Walked as flat
-
--- the fields, case by case
-abbrev pub fieldOf : Field → message.Field
-fieldOf Options = options
-fieldOf File = file
-fieldOf Sname = sname
 
 -- 0 and 255, a pad and END, are no codes; a walk marks them in its set of codes
 abbrev pub withEnds : List ℕ → List ℕ

@@ -3,27 +3,9 @@ ghost use mathlib.Core.Path.{_≡_};
 ghost use mathlib.Core.Bool.{false};
 ghost use Prim.Native.Nat.{_+_, _<_, _≤_};
 ghost use lib.ListN.{length, getD, drop};
-ghost use Rattle.options.specs.Message.{start};
 ghost use Rattle.options.specs.Reading.{parse};
-ghost use Rattle.wire.specs.Walk.{fieldOf, itemAt, overWrong, overAfter, startAfter, whyAt, walkedAt, Walks};
+ghost use Rattle.wire.specs.Walk.{itemAt, overWrong, overAfter, startAfter, whyAt, walkedAt, Walks};
 ghost use Rattle.wire.specs.Ahead.{nextOf};
-
-pub enum Field {
-    Options,
-    File,
-    Sname,
-}
-
-// The place of a field's first byte in the message.
-pub fn base(field: Field) -> usize
-    ensures { λ r. ⌜ (r ≡ start (fieldOf field)) × (r ≤ 240) ⌝ }
-{
-    match field {
-        Field::Options => 240,
-        Field::File => 108,
-        Field::Sname => 44,
-    }
-}
 
 // What a walk gives: where the data of the wanted code start, just after their length byte (0: not met); how many bytes the options take, pads
 // and END not counted; the value of option 52 (0: not met); number and place of a refusal (0: none).

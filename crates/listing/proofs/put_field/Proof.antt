@@ -5,7 +5,7 @@ use Prim.Native.Nat.{_-_}
 use native.Mathlib.Omega.{arith}
 use lib.ListN.{length}
 use Rattle.options.specs.Answers.{linesOf}
-use Rattle.wire.specs.Walk.{fieldOf}
+use Rattle.message.specs.Fields.{fieldOf}
 use Rattle.wire.proofs.Laws.{rest}
 use Rattle.message.specs.Fields.{fieldOptions}
 use Rattle.listing.proofs.Buffers.{Leads, leads-first, leads-last}

@@ -20,7 +20,7 @@ use Rattle.writing_theorems.proofs.Written.{Distinct}
 use Rattle.writing_theorems.proofs.SheetView.{rec, lies-next, whole, Reads, r-none, r-record, reads}
 
 -- no rule is broken where the answer is no refusal
-abbrev Kept : List Rule → List ℕ → Rec → Type 0
+abbrev pub Kept : List Rule → List ℕ → Rec → Type 0
 Kept [] seen r = Unit {0}
 Kept (x ∷ xs) seen r = (x .breaks seen r ≡ false) × Kept xs seen r
 

@@ -71,6 +71,34 @@ module _ (s : List ℕ) (at : ℕ) where
           walk-record s at (getD s at 0) (recordHere s at .body) lies
           ∙ ap (λ (n : ℕ). readAt at (recordHere s at) (recordsFrom (at + 3 + n) 0 (drop (at + 3 + n) s))) body-size
 
+-- what a place has
+pub data At (s : List ℕ) (at : ℕ) : Walk → Type 0 where
+  at-end : length s ≤ at → At s at allRead
+  at-cut : at < length s → At s at (cutAt at)
+  at-record : at + 3 + sizeAt s at ≤ length s → length (recordHere s at .body) ≡ sizeAt s at
+      → At s at (readAt at (recordHere s at) (recordsFrom (at + 3 + sizeAt s at) 0 (drop (at + 3 + sizeAt s at) s)))
+
+module _ (s : List ℕ) (at : ℕ) where
+  abbrev here : Walk
+  here = recordsFrom at 0 (drop at s)
+
+  sized : at + 3 ≤ length s → (b : Bool) → ltb (length s) (at + 3 + sizeAt s at) ≡ b → At s at here
+  sized h true q = subst (At s at) (sym (step-cut s at h (ltb-true _ _ q))) (at-cut (omega arith))
+  sized h false q =
+      let w : at + 3 + sizeAt s at ≤ length s = ltb-false _ _ q in
+      subst (At s at) (sym (step-record s at h w)) (at-record w (body-size s at h w))
+
+  headed : at < length s → (b : Bool) → ltb (length s) (at + 3) ≡ b → At s at here
+  headed h true q = subst (At s at) (sym (step-head s at h (ltb-true _ _ q))) (at-cut h)
+  headed h false q = sized (ltb-false _ _ q) (ltb (length s) (at + 3 + sizeAt s at)) refl
+
+  some : (b : Bool) → ltb at (length s) ≡ b → At s at here
+  some true q = headed (ltb-true _ _ q) (ltb (length s) (at + 3)) refl
+  some false q = subst (At s at) (sym (step-none s at (ltb-false _ _ q))) (at-end (ltb-false _ _ q))
+
+  pub at-place : At s at here
+  at-place = some (ltb at (length s)) refl
+
 -- ---- The records left from a place on
 
 pub none-left : (s : List ℕ) (at : ℕ) → length s ≤ at → recordsLeft s at ≡ []
@@ -93,49 +121,35 @@ pub record Next (s : List ℕ) (at : ℕ) : Type 0 where
   pub whole : Whole s (at + 3 + sizeAt s at)
 
 module _ (s : List ℕ) (at : ℕ) (w : Whole s at) (l : at < length s) where
-  some : recordsLeft s at ≡ [] → ⊥
+  none : recordsLeft s at ≡ [] → ⊥
   unfolding recordBytes
-  some e =
+  none e =
       let z : length (recordBytes (recordsLeft s at)) ≡ 0 = ap (λ (rs : List Rec). length (recordBytes rs)) e in
       omega (arith, z, w .to-end, l)
 
-  not-cut : recordsFrom at 0 (drop at s) ≡ cutAt at → ⊥
-  unfolding recordsOf recordsLeft
-  not-cut e = some (ap recordsOf e)
-
-  headed : at + 3 ≤ length s
-  headed = go (ltb (length s) (at + 3)) refl
-    where
-      go : (b : Bool) → ltb (length s) (at + 3) ≡ b → at + 3 ≤ length s
-      go true q = absurd (not-cut (step-head s at l (ltb-true _ _ q)))
-      go false q = ltb-false _ _ q
-
-  sized : at + 3 + sizeAt s at ≤ length s
-  sized = go (ltb (length s) (at + 3 + sizeAt s at)) refl
-    where
-      go : (b : Bool) → ltb (length s) (at + 3 + sizeAt s at) ≡ b → at + 3 + sizeAt s at ≤ length s
-      go true q = absurd (not-cut (step-cut s at headed (ltb-true _ _ q)))
-      go false q = ltb-false _ _ q
-
-  first-left : recordsLeft s at ≡ recordHere s at ∷ recordsLeft s (at + 3 + sizeAt s at)
-  unfolding recordsOf recordsLeft
-  first-left = ap recordsOf (step-record s at headed sized)
-
-  pub next-left : Next s at
-  next-left =
-      let long : length (recordHere s at .body) ≡ sizeAt s at = body-size s at headed sized in
-      let short : AllShort (recordHere s at ∷ recordsLeft s (at + 3 + sizeAt s at)) = subst AllShort first-left (w .short) in
+  next-at : at + 3 + sizeAt s at ≤ length s → length (recordHere s at .body) ≡ sizeAt s at → recordsLeft s at ≡ recordHere s at ∷ recordsLeft s (at + 3 + sizeAt s at) → Next s at
+  next-at h long first =
+      let short : AllShort (recordHere s at ∷ recordsLeft s (at + 3 + sizeAt s at)) = subst AllShort first (w .short) in
       let few : sizeAt s at ≤ 255 = omega (arith, long, short .0) in
       let bytes : length (recordBytes (recordsLeft s at)) ≡ 3 + length (recordHere s at .body) + length (recordBytes (recordsLeft s (at + 3 + sizeAt s at))) =
-      ap (λ (rs : List Rec). length (recordBytes rs)) first-left ∙ bytes-more (recordHere s at) (recordsLeft s (at + 3 + sizeAt s at)) in
+      ap (λ (rs : List Rec). length (recordBytes rs)) first ∙ bytes-more (recordHere s at) (recordsLeft s (at + 3 + sizeAt s at)) in
       record {
-        within = sized;
+        within = h;
         body-long = long;
-        first = first-left;
+        first = first;
         few = few;
         low = omega arith;
         whole = record { to-end = omega (arith, bytes, long, w .to-end); short = short .1 };
       }
+
+  next-by : {x : Walk} → At s at x → recordsFrom at 0 (drop at s) ≡ x → Next s at
+  unfolding recordsOf recordsLeft
+  next-by (at-end h) e = absurd (omega arith)
+  next-by (at-cut h) e = absurd (none (ap recordsOf e))
+  next-by (at-record h long) e = next-at h long (ap recordsOf e)
+
+  pub next-left : Next s at
+  next-left = next-by (at-place s at) refl
 
 -- the records of an accepted sheet are those left from its start on, and they take all of it
 pub whole-left : (t : Table) (s : List ℕ) (rs : List Rec) → sheet t s ≡ sound rs → (recordsLeft s 0 ≡ rs) × Whole s 0

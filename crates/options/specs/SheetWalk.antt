@@ -1,5 +1,5 @@
 -- THE RECORDS OF A SHEET, walked one after the other (document 01: "records end to end: one-byte tag (the code), two-byte length, data"), and rules over them.
--- The walk knows no rule; who takes a sheet lists his own. Assumes nothing.
+-- The walk knows no rule: each call that takes a sheet lists its own. Assumes nothing.
 use mathlib.Core.Path.{_≡_}
 use mathlib.Core.List.{List, [], _∷_}
 use mathlib.Core.Bool.{Bool, true, false, cond}

@@ -13,14 +13,11 @@ use Rattle.options.specs.Kinds.{Kind, Value, broken, number, part, kindOf, hasR
 use Rattle.options.specs.Reading.{either, among}
 use Rattle.options.specs.SheetWalk.{Sheet, faulty, Rule, tested, isBroken, brokenBy, breaksKind}
 use Rattle.options.specs.Writing.{writerRules}
+use Rattle.theorems.proofs.View.{clash}
 use Rattle.writing_theorems.proofs.SheetLaws.{Kept}
 use Rattle.kinds.proofs.Numbering.{unbroken}
 use Rattle.kinds.specs.Numbers.{numberOfFault, faultOf}
 use Rattle.sheet.specs.Parts.{noTags, metBroken}
-
--- from two constructors that differ, anything
-pub clash {ℓ} : {X : Type ℓ} → _≡_ {A = ℕ} 0 1 → X
-clash e = absurd (omega arith)
 
 -- ---- The rule of the kind
 

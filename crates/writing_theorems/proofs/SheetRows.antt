@@ -16,24 +16,15 @@ use Rattle.options.specs.KindClaims.{AllBytes}
 use Rattle.options.specs.Sheet.{RecordAt, RecordBegins, first, after-record, Listed}
 use Rattle.options.specs.SheetRefusals.{RecordBeyond, SheetRow, row-12, row-10, row-13, row-7, row-8-9}
 use Rattle.options.specs.SheetWalk.{recordsFrom, AllShort, Sheet, sound, faulty, ruled, isBroken, brokenBy, breaksKind}
-use Rattle.options.specs.RuleClaims.{Reached, at-first, behind, nth-first, nth-next, RuleRow, cut-row, rule-row, RuledSays}
+use Rattle.options.specs.RuleClaims.{Reached, at-first, behind, nth-first, nth-next, RuleRow, cut-row, rule-row, CorrectSheet}
 use Rattle.options.specs.Writing.{writerRules, sheet, hasTag, threeBeforeOne, placeOf3}
 use Rattle.options.specs.WritingClaims.{RecordIn}
 use Rattle.theorems.proofs.View.{clash}
 use Rattle.theorems.proofs.Fields.{compare}
 use Rattle.theorems.proofs.Sheets.{From, here, past, from-le, begins-from, record-same, from-record, record-first, records-next}
-use Rattle.writing_theorems.proofs.SheetView.{rec, whole-or-cut}
-use Rattle.writing_theorems.proofs.Ruled.{nth-some, ruled-right}
+use Rattle.writing_theorems.proofs.SheetView.{nothing, rec, whole-or-cut}
+use Rattle.writing_theorems.proofs.Ruled.{nth-some, ruled-correct}
 use Rattle.writing_theorems.proofs.SheetLaws.{Has}
-
-head : {x y : ℕ} {xs ys : List ℕ} → x ∷ xs ≡ y ∷ ys → x ≡ y
-head e = cc
-
-tail : {x y : ℕ} {xs ys : List ℕ} → x ∷ xs ≡ y ∷ ys → xs ≡ ys
-tail e = cc
-
-nothing : {y : ℕ} {ys : List ℕ} → [] ≡ y ∷ ys → ⊥
-nothing e = clash (cc)
 
 from-begins : {s : List ℕ} {k i : ℕ} → RecordBegins s i → From s k i → RecordBegins s k
 from-begins {s} b (here e) = subst (λ (x : ℕ). RecordBegins s x) e b
@@ -170,7 +161,7 @@ abbrev pub Judges : Table → List ℕ → Sheet → Type 0
 Judges t s (faulty n p) = FirstSheetRow t s n p
 Judges t s (sound rs) = (n i q : ℕ) → SheetRow t s n i q → ⊥
 
-judges-of : (t : Table) (s : List ℕ) → AllBytes s → (x : Sheet) → RuledSays (writerRules t) s x → Judges t s x
+judges-of : (t : Table) (s : List ℕ) → AllBytes s → (x : Sheet) → CorrectSheet (writerRules t) s x → Judges t s x
 judges-of t s all (faulty n p) g = record { rank = g .rank; applies = to-row (g .applies); none-before = λ r. before (of-row all r) }
   where
     before : {j q : ℕ} → Ruled t s j q → (p < j) ⊎ ((p ≡ j) × (g .rank ≤ q))
@@ -179,7 +170,7 @@ judges-of t s all (sound rs) g = λ n i q r. let x = of-row all r in g .1 (x .nu
 
 pub judges : (t : Table) (s : List ℕ) → AllBytes s → Judges t s (sheet t s)
 unfolding sheet
-judges t s all = judges-of t s all (ruled (writerRules t) [] (recordsFrom 0 0 s)) (ruled-right (writerRules t) s all)
+judges t s all = judges-of t s all (ruled (writerRules t) [] (recordsFrom 0 0 s)) (ruled-correct (writerRules t) s all)
 
 -- ---- tag 3 before tag 1
 

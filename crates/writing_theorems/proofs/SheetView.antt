@@ -15,7 +15,17 @@ use Rattle.options.specs.KindClaims.{AllBytes}
 use Rattle.options.specs.Sheet.{RecordAt}
 use Rattle.options.specs.SheetRefusals.{RecordBeyond}
 use Rattle.options.specs.SheetWalk.{Walk, allRead, cutAt, readAt, recordSpan, recordOr, recordsFrom}
+use Rattle.theorems.proofs.View.{clash}
 use Rattle.theorems.proofs.CodesPresent.{all-drop}
+
+pub head : {x y : ℕ} {xs ys : List ℕ} → x ∷ xs ≡ y ∷ ys → x ≡ y
+head e = cc
+
+pub tail : {x y : ℕ} {xs ys : List ℕ} → x ∷ xs ≡ y ∷ ys → xs ≡ ys
+tail e = cc
+
+pub nothing : {y : ℕ} {ys : List ℕ} → [] ≡ y ∷ ys → ⊥
+nothing e = clash (cc)
 
 abbrev pub rec : ℕ → List ℕ → Rec
 rec c d = record { tag = c; body = d }

@@ -69,10 +69,8 @@ fn fill_options(field: &mut [u8], plan: u8, s: &[u8]) -> usize
     if plan == 0 {
         return fill(field, s, 0);
     }
-    // Stored here, so that `put_option` has one caller and is compiled into its loop.
-    field[0] = 52;
-    field[1] = 1;
-    field[2] = plan;
+    let body = [plan];
+    field_writer::put_option(field, 52, &body);
     fill(&mut field[3..], s, 0)
 }
 

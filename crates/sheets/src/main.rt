@@ -1,7 +1,7 @@
 // Reads settings sheets from standard input, writes each into a buffer, and prints what was written (tests/sheets/README.md).
 mod print;
 
-use writer::Wrote;
+use plan::Choice;
 
 // Fills buf with first, first + 1 and so on, modulo 256, so that a byte that is moved or changed shows.
 fn fill(buf: &mut [u8], first: u8) {
@@ -18,8 +18,8 @@ fn fill(buf: &mut [u8], first: u8) {
 fn one(sheet: &[u8], buf: &mut [u8], permission: u8) {
     let w = writer::write(sheet, buf, permission);
     match w {
-        Wrote::Plan(plan) => print::written(plan, sheet, buf),
-        Wrote::Refused { number, place } => print::refused(number, place, buf),
+        Choice::Plan(plan) => print::written(plan as u32, sheet, buf),
+        Choice::Refused { number, place } => print::refused(number, place, buf),
     }
     console::word(b"-\n");
 }

@@ -1,5 +1,5 @@
 -- Option 52 before the records. Assumes nothing.
-use mathlib.Core.Path.{_≡_, sym, ap, ap₂, _∙_}
+use mathlib.Core.Path.{_≡_, sym, ap, ap₂, subst, _∙_}
 use mathlib.Core.List.{List, [], _∷_, _++_}
 use Prim.Native.Nat.{ℕ, _+_, _-_, _≤_}
 use native.Mathlib.Omega.{arith}
@@ -7,8 +7,10 @@ use lib.ListN.{length, take, drop, length-drop, length-append}
 use borrow.Rule.Slice.PartMut.{putMid, midOf}
 use borrow.Author.Tests.{ne-eqb}
 use Rattle.options.specs.Message.{Rec}
-use Rattle.options.specs.Writing.{with52}
-use Rattle.writer.specs.Fill.{filled, taken, past52}
+use Rattle.options.specs.Writing.{with52, pastOptions}
+use Rattle.plan.specs.Steps.{leftOver, From}
+use Rattle.plan.proofs.Sizes.{past}
+use Rattle.writer.specs.Fill.{filled}
 use Rattle.field_writer.specs.Room.{withOption}
 use Rattle.field_writer.proofs.Bytes.{with-option}
 use Rattle.buffer.proofs.Copied.{mid-rest, put-rest}
@@ -17,19 +19,14 @@ use Rattle.writer.proofs.Filling.{fill-more}
 abbrev pub option52 : ℕ → Rec
 option52 p = record { tag = 52; body = p ∷ [] }
 
-pub from-start : (k : ℕ) → 0 + k ≡ k
-from-start k = omega arith
-
 -- a plan without it
-pub alone : (p n : ℕ) (rs : List Rec) (ys : List ℕ) (r : ℕ) → p ≡ 0 → ys ≡ filled n rs → r ≡ 0 + taken n rs → (ys ≡ filled n (with52 p rs)) × (r ≡ taken (past52 p n) rs)
-alone p n rs ys r z y q = rw z (y, q ∙ from-start (taken n rs))
+pub alone : (s : List ℕ) (p n : ℕ) (rs : List Rec) (ys : List ℕ) (r : ℕ) → p ≡ 0 → ys ≡ filled n rs → From s (leftOver n rs) r → (ys ≡ filled n (with52 p rs)) × From s (pastOptions p n rs) r
+unfolding pastOptions
+alone s p n rs ys r z y q = rw z (y, q)
 
 module _ (p : ℕ) (rs : List Rec) (z : p ≡ 0 → ⊥) where
-  pub first : with52 p rs ≡ option52 p ∷ rs
+  first : with52 p rs ≡ option52 p ∷ rs
   first = rw (ne-eqb p 0 z)
-
-  pub rest : (n : ℕ) → past52 p n ≡ n - 3
-  rest n = rw (ne-eqb p 0 z)
 
   -- written, and the records after it
   module _ (field x ys : List ℕ) (h : 4 ≤ length field) (e : x ≡ withOption field 52 (p ∷ [])) where
@@ -49,5 +46,5 @@ module _ (p : ℕ) (rs : List Rec) (z : p ≡ 0 → ⊥) where
         ∙ sym (fill-more (length field) (option52 p) rs h)
         ∙ ap (filled (length field)) (sym first)
 
-    pub place52 : (r : ℕ) → r ≡ 0 + taken (length (midOf 3 (length x - 3) x)) rs → r ≡ taken (past52 p (length field)) rs
-    place52 r q = q ∙ from-start _ ∙ ap (λ (k : ℕ). taken k rs) (lent ∙ sym (rest (length field)))
+    pub from52 : (s : List ℕ) (r : ℕ) → From s (leftOver (length (midOf 3 (length x - 3) x)) rs) r → From s (pastOptions p (length field) rs) r
+    from52 s r q = subst (λ (ts : List Rec). From s ts r) (ap (λ (k : ℕ). leftOver k rs) lent ∙ sym (past (length field) rs h p z)) q

@@ -5,8 +5,8 @@ use lib.ListN.{length}
 use denote.Ref.{now}
 use native.Mathlib.Omega.{arith}
 use Rattle.options.specs.Message.{Rec}
-use Rattle.writer.specs.Fill.{sheetRecords}
-use Rattle.writer.proofs.First.{alone, after, place52}
+use Rattle.options.specs.SheetWalk.{recordsLeft}
+use Rattle.writer.proofs.First.{alone, after, from52}
 use Rattle.writer.proofs.Parts.{room-52}
 use borrow.Author.Needs.{needs}
 use Rattle.writer.proofs.fill_options.Statement.{statement}
@@ -24,9 +24,10 @@ same-length c = search needs
 
 returns : tie.Need-returns
 returns c =
-    let start = c .before .before .before .before .before .before .before .args in
+    let branch = c .before .before .before .before in
+    let start = branch .before .before .before .args in
     let call = c .before .before .fill in
-    alone (start .plan) _ (sheetRecords 0 (now (start .s))) (call .last .0) (call .result) (c .before .before .before .before .if1 .taken) (call .ensures .0) (call .ensures .1)
+    alone (now (start .s)) (start .plan) _ (recordsLeft (now (start .s)) 0) (call .last .0) (call .result) (branch .if1 .taken) (call .ensures .0) (call .ensures .1)
 
 slice-aggregate-put-option : tie.Need-slice-aggregate-put-option
 slice-aggregate-put-option c = search needs
@@ -59,9 +60,9 @@ returns-2 c =
     let put = c .before .before .before .before .before .before in
     let branch = put .before .before .before in
     let start = branch .before .before .before .args in
-    let rs : List Rec = sheetRecords 0 (now (start .s)) in (
+    let rs : List Rec = recordsLeft (now (start .s)) 0 in (
       after (start .plan) rs (branch .if1 .left) (now (start .field)) (put .put-option .last .0) (written .last .0) (four branch) (put .put-option .ensures) (written .ensures .0),
-      place52 (start .plan) rs (branch .if1 .left) (now (start .field)) (put .put-option .last .0) (written .last .0) (four branch) (put .put-option .ensures) (written .result) (written .ensures .1),
+      from52 (start .plan) rs (branch .if1 .left) (now (start .field)) (put .put-option .last .0) (written .last .0) (four branch) (put .put-option .ensures) (now (start .s)) (written .result) (written .ensures .1),
     )
 
 pub fill-options-spec : {M : Type 1} → statement M

@@ -1,7 +1,7 @@
 -- Records counted, one after the other, while a field takes them. All that is used of a sheet is `recordsLeft`, and three laws of it: `none-left`
 -- and `whole-left` (SheetSteps), and `turn`. Assumes nothing.
 use mathlib.Core.Path.{_≡_, refl, sym, ap, _∙_, subst}
-use mathlib.Core.List.{List, [], _∷_}
+use mathlib.Core.List.{List, _∷_}
 use Prim.Native.Nat.{ℕ, _+_, _-_, _<_, _≤_}
 use native.Mathlib.Omega.{arith}
 use lib.ListN.{length, getD, take, drop}

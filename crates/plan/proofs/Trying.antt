@@ -1,5 +1,5 @@
 -- Whether a plan fits, the plans tried one after the other, and the tests before them. Assumes nothing.
-use mathlib.Core.Path.{_≡_, refl, sym, ap, ap₂, subst, _∙_}
+use mathlib.Core.Path.{_≡_, refl, sym, ap, ap₂, _∙_}
 use mathlib.Core.List.{List, [], _∷_}
 use mathlib.Core.Bool.{Bool, true, false, cond}
 use Prim.Native.Nat.{ℕ, _-_, _<_, _≤_}
@@ -10,7 +10,7 @@ use borrow.Author.Tests.{lt-ltb, le-ltb, lt-leb, eq-eqb, ne-eqb, eqb-true, eqb-f
 use Rattle.options.specs.Message.{Rec}
 use Rattle.options.specs.Kinds.{kinds}
 use Rattle.options.specs.SheetWalk.{recordsLeft}
-use Rattle.options.specs.Writing.{wrote, declined, planFits, written, plans, tryPlans, sheet, afterSheet, writer}
+use Rattle.options.specs.Writing.{wrote, planFits, written, plans, tryPlans, sheet, afterSheet, writer}
 use Rattle.sheet.specs.Judge.{judgeOf}
 use Rattle.sheet.proofs.Verdicts.{Accepted, tries, refused}
 use Rattle.plan.specs.Answer.{answerOf, Answers}

@@ -3,10 +3,10 @@ use mathlib.Core.Path.{_≡_, refl, sym, ap, ap₂, subst, _∙_}
 use mathlib.Core.List.{List, [], _∷_, _++_, append-assoc}
 use Prim.Native.Nat.{ℕ, zero, suc, _+_, _-_, _<_, _≤_}
 use native.Mathlib.Omega.{arith}
-use lib.ListN.{length, getD, take, drop, length-drop, length-append, drop-of-length-le, replicate}
+use lib.ListN.{length, getD, take, drop, length-drop, length-append, replicate}
 use lib.Seq.{length-take-le, take-at}
 use borrow.Rule.Slice.PartMut.{putMid, midOf, same-len-mid}
-use borrow.Author.Tests.{lt-ltb, le-ltb, ne-eqb}
+use borrow.Author.Tests.{lt-ltb, ne-eqb}
 use Rattle.options.specs.Message.{Rec}
 use Rattle.options.specs.Writing.{size, optionBytes, fits, fieldBytes}
 use Rattle.buffer.proofs.Copied.{mid-rest, put-rest}

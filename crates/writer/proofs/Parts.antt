@@ -72,9 +72,6 @@ module _ (h s f c o : List ℕ) (lh : length h ≡ 44) (ls : length s ≡ 64) (l
   pub put-cookie : (ys : List ℕ) → putMid 236 4 (join5 h s f c o) ys ≡ join5 h s f ys o
   put-cookie ys = ap (λ (l : List ℕ). putMid 236 4 l ys) (sym (cookie-at c)) ∙ put-at 236 4 (h ++ (s ++ f)) c o ys l3 lc ∙ cookie-at ys
 
-  pub mid-cookie : midOf 236 4 (join5 h s f c o) ≡ c
-  mid-cookie = ap (midOf 236 4) (sym (cookie-at c)) ∙ mid-at 236 4 (h ++ (s ++ f)) c o l3 lc
-
   pub put-options : (ys : List ℕ) → putMid 240 (length (join5 h s f c o) - 240) (join5 h s f c o) ys ≡ join5 h s f c ys
   put-options ys =
       ap (λ (l : List ℕ). putMid 240 (length (join5 h s f c o) - 240) l ys) (sym (options-at o))

@@ -1,6 +1,4 @@
 -- `buffer::put_four` meets its contract. Assumes nothing.
-use native.Mathlib.Omega.{arith}
-use lib.ListN.{length-set}
 use denote.Ref.{now}
 use Rattle.buffer.proofs.Laws.{stored-all}
 use borrow.Author.Needs.{needs}

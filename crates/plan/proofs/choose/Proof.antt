@@ -1,7 +1,6 @@
 -- `plan::choose` meets its contract: the tests in the order of `writer`, then the plans. Assumes nothing.
-use mathlib.Core.Path.{_≡_, sym, ap, _∙_}
+use mathlib.Core.Path.{sym, ap, _∙_}
 use denote.Ref.{now}
-use Rattle.sheet.specs.Judge.{judgeOf}
 use Rattle.sheet.specs.declared.Judged.{Judged}
 use Rattle.sheet.proofs.Verdicts.{Accepted, accepted}
 use Rattle.plan.proofs.Trying.{too-short, too-long, no-such, sheet-long, faulty-sheet, sound-sheet}

@@ -1,11 +1,10 @@
 -- `plan::choose_judged` meets its contract: plan 0 where the options and END fit, and else the plans that overload. Assumes nothing.
 use mathlib.Core.Path.{_≡_, _∙_}
-use mathlib.Core.List.{List}
-use Prim.Native.Nat.{ℕ, _+_, _-_, _<_, _≤_}
+use Prim.Native.Nat.{_+_, _-_}
 use native.Mathlib.Omega.{arith}
 use lib.ListN.{length}
 use borrow.Author.Tests.{lt-ltb, le-ltb}
-use mathlib.Core.Bool.{true, false}
+use mathlib.Core.Bool.{false}
 use denote.Ref.{now}
 use Rattle.options.specs.SheetWalk.{recordsLeft}
 use Rattle.options.specs.Writing.{planFits}

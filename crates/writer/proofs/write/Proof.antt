@@ -1,9 +1,7 @@
 -- `writer::write` meets its contract: a refusal leaves the buffer, and a plan that was chosen is written. Assumes nothing.
-use mathlib.Core.Path.{_≡_, refl, ap, _∙_}
-use mathlib.Core.List.{List}
-use Prim.Native.Nat.{ℕ}
+use mathlib.Core.Path.{refl}
 use denote.Ref.{now}
-use Rattle.options.specs.Writing.{writer, bufferAfter}
+use Rattle.options.specs.Writing.{writer}
 use Rattle.writer.proofs.Used.{keeps, Used, used}
 use borrow.Author.Needs.{needs}
 use Rattle.writer.proofs.write.Statement.{statement}

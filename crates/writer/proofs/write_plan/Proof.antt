@@ -1,5 +1,5 @@
 -- `writer::write_plan` meets its contract: the parts that were lent, put back one after the other, are the buffer that the plan leaves. Assumes nothing.
-use mathlib.Core.Path.{_≡_, sym, ap, _∙_}
+use mathlib.Core.Path.{_≡_, ap, _∙_}
 use mathlib.Core.List.{List, []}
 use mathlib.Core.Bool.{cond}
 use Prim.Native.Nat.{ℕ, _-_, _≤_, _<_}

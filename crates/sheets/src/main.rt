@@ -37,8 +37,8 @@ fn next() -> bool {
     if io::read_full(0, &mut head) < 6 {
         return false;
     }
-    let length = kinds::be16(head[1], head[2]) as usize;
-    let size = kinds::be16(head[4], head[5]) as usize;
+    let length = num::be16(head[1], head[2]) as usize;
+    let size = num::be16(head[4], head[5]) as usize;
     if 1600 < length {
         return false;
     }

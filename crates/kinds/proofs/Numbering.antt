@@ -8,7 +8,7 @@ use native.Mathlib.Omega.{arith}
 use borrow.Author.Tests.{ne-eqb}
 use lib.Dec.{eqb}
 use lib.ListN.{length}
-use Rattle.options.specs.Writing.{isBroken}
+use Rattle.options.specs.SheetWalk.{isBroken}
 use Rattle.options.specs.Kinds.{Kind, address, addresses, pairs, flag, octet, number16, numbers16, unsigned32, signed32, text, opaque, Value, broken, number, part, kindOf, lengthFits, valueFits, meaning, judged, kinds}
 use Rattle.kinds.specs.Numbers.{numberOf, kindNumber, kindAt, numberOfFault, faultOf}
 

@@ -15,11 +15,12 @@ use Rattle.options.specs.Answers.{recordBytes}
 use Rattle.options.specs.KindClaims.{AllBytes}
 use Rattle.options.specs.Sheet.{Listed, first}
 use Rattle.options.specs.SheetRefusals.{SheetRow, row-7}
-use Rattle.options.specs.Writing.{Sheet, sound, faulty, sheet, Wrote, wrote, declined, threeBeforeOne, placeOf3, planFits, plans, tryPlans, afterSheet, written, writer}
+use Rattle.options.specs.SheetWalk.{AllShort, Sheet, sound, faulty}
+use Rattle.options.specs.Writing.{sheet, Wrote, wrote, declined, threeBeforeOne, placeOf3, planFits, plans, tryPlans, afterSheet, written, writer}
 use Rattle.options.specs.WriterClaims.{Permitted, Holding, step, WriteRow, write-1, write-2, write-15, write-16, write-record, write-14, write-11, FirstWriteRow, WriterSays, RefusesByTheTable, CorrectWrite, DeclinedIff}
 use Rattle.theorems.proofs.View.{clash}
 use Rattle.theorems.proofs.Reading.{order}
-use Rattle.writing_theorems.proofs.SheetLaws.{sheet-back, sheet-short, AllShort, same-sheet}
+use Rattle.writing_theorems.proofs.SheetLaws.{sound-sheet, same-sheet}
 use Rattle.writing_theorems.proofs.SheetRows.{FirstSheetRow, Judges, judges, three-first, three-later, same-number}
 use Rattle.writing_theorems.proofs.Writer.{writer-writes, Among, is-permitted, permitted-is, holding, fitting, fits-of}
 
@@ -191,9 +192,8 @@ module _ (t : Table) (s m : List ℕ) (permission : ℕ) (h1 : 240 ≤ length m)
             plans-say (λ i j d f a l b. three-later s (once t s m permission clean) i j d f rs short is e a l b) (tryPlans (plans permission) m rs) (tried m rs (plans permission))
 
   sheet-says : (x : Sheet) → sheet t s ≡ x → Judges t s x → WriterSays t s m permission (afterSheet m permission x)
-  unfolding sheet
   sheet-says (faulty n p) e j = first-record t s m permission n p late-5 j
-  sheet-says (sound rs) e j = sound-says rs (sheet-short t [] 0 0 s rs e) (sym (sheet-back t [] 0 0 s rs e)) j
+  sheet-says (sound rs) e j = let f = sound-sheet t s rs e in sound-says rs (f .short) (sym (f .back)) j
 
 pub refuses-by-the-table : RefusesByTheTable
 unfolding writer

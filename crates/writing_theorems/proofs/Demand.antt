@@ -15,14 +15,16 @@ use Rattle.options.specs.Kinds.{Table, Value, broken, number, part, Proper, kin
 use Rattle.options.specs.CodeSet.{marked}
 use Rattle.options.specs.Answers.{isKnown, Absent, valueAt, shown, lookup, recordBytes, but52, filledWith}
 use Rattle.options.specs.ReadingClaims.{IsAccepted, In}
-use Rattle.options.specs.Writing.{with52, written, pastSname, Sheet, sound, faulty, sheet, isBroken, Wrote, wrote, declined, isNil, planFits, threeBeforeOne, placeOf3, plans, tryPlans, afterSheet, writer}
+use Rattle.options.specs.SheetWalk.{AllShort, Sheet, sound, faulty, isBroken}
+use Rattle.options.specs.Writing.{with52, written, pastSname, sheet, Wrote, wrote, declined, isNil, planFits, threeBeforeOne, placeOf3, plans, tryPlans, afterSheet, writer}
 use Rattle.options.specs.WritingClaims.{RecordIn, NoRecord, SameRecord, WrittenIsAccepted, SheetComesBack, bytesAt, SameButPlace, both-absent, same-number, same-part, IsKind, is-number, is-part, ReadsAsUnknown, Demand3, Demand3OfKinds}
 use Rattle.theorems.proofs.View.{clash}
 use Rattle.theorems.proofs.Reading.{held, holds-in, absent-iff-not-held, lookup-held, own-bytes}
 use Rattle.theorems.proofs.KindRules.{kinds-proper}
 use Rattle.theorems.proofs.Sheets.{records-is}
 use Rattle.writing_theorems.proofs.Written.{Distinct, Fits, read-written, items-written}
-use Rattle.writing_theorems.proofs.SheetLaws.{sheet-back, sheet-distinct, sheet-short, sheet-kinds, AllShort, AllKinds, rec, Has, kind-of}
+use Rattle.writing_theorems.proofs.SheetView.{rec}
+use Rattle.writing_theorems.proofs.SheetLaws.{Sound, sound-sheet, AllKinds, Has, kind-of}
 use Rattle.writing_theorems.proofs.SheetRows.{has-record, record-has}
 
 -- a refusal that is not there
@@ -84,21 +86,20 @@ record Accepted (t : Table) (s w : List ℕ) : Type 0 where
   in-order : items opts ≡ with52 plan records
 
 after : (t : Table) (s m : List ℕ) (permission q : ℕ) (w : List ℕ) (x : Sheet) → sheet t s ≡ x → 240 ≤ length m → length m ≤ 1472 → afterSheet m permission x ≡ wrote q w → Accepted t s w
-unfolding sheet
 after t s m permission q w (faulty n p) x h l e = clash (cc)
 after t s m permission q w (sound rs) x h l e =
     let r : (threeBeforeOne rs ≡ false) × (tryPlans (plans permission) m rs ≡ wrote q w) = passed (threeBeforeOne rs) 14 (placeOf3 rs) _ q w e in
     let u : Used q w m rs = used (plans permission) m rs q w (small-plans permission) (r .1) in
-    let d : Distinct [] rs = sheet-distinct t [] 0 0 s rs x in
+    let f : Sound t s [] 0 rs = sound-sheet t s rs x in
     record {
       plan = q;
       records = rs;
-      is-sheet = sym (sheet-back t [] 0 0 s rs x);
-      distinct = d;
-      short = sheet-short t [] 0 0 s rs x;
-      in-kinds = sheet-kinds t [] 0 0 s rs x;
+      is-sheet = sym (f .back);
+      distinct = f .distinct;
+      short = f .short;
+      in-kinds = f .in-kinds;
       opts = _;
-      reads = ap readMessage (u .is-written) ∙ read-written q m rs (u .small) h (u .fits) l d;
+      reads = ap readMessage (u .is-written) ∙ read-written q m rs (u .small) h (u .fits) l (f .distinct);
       in-order = items-written q (length m - 240) rs (u .fits .none-left);
     }
 

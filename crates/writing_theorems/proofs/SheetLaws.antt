@@ -2,32 +2,34 @@
 use mathlib.Core.Path.{_≡_, refl, ap, ap₂, sym, _∙_, subst}
 use mathlib.Core.List.{List, [], _∷_, _++_}
 use mathlib.Core.Bool.{Bool, true, false, cond}
-use mathlib.Core.Logic.{_⊎_, inl, inr, ⊎-elim}
-use Prim.Native.Nat.{ℕ, zero, suc, _+_, _-_, _*_, _/_, _%_, _≤_}
+use mathlib.Core.Logic.{_⊎_, inl, inr}
+use Prim.Native.Nat.{ℕ, _+_, _*_, _/_, _%_, _≤_}
 use native.Mathlib.Omega.{arith}
-use lib.ListN.{length, take, drop, take-append-drop, length-take}
-use lib.Seq.{length-take-le, take-at, drop-at}
-use lib.Dec.{ltb, eqb}
-use borrow.Author.Tests.{ltb-false, eqb-true, eqb-false}
+use lib.ListN.{length, take, drop}
+use lib.Seq.{take-at, drop-at}
+use lib.Dec.{eqb}
+use borrow.Author.Tests.{ltb-false}
 use Rattle.options.specs.Message.{Rec}
-use Rattle.options.specs.Reading.{either}
+use Rattle.options.specs.Reading.{either, among}
 use Rattle.options.specs.Kinds.{Table}
 use Rattle.options.specs.Answers.{recordBytes}
-use Rattle.options.specs.Writing.{Sheet, sound, faulty, keep, sizeIn, recordCut, sheetRecord, breaksKind, Rule, tested, rules, sheetFrom}
+use Rattle.options.specs.SheetWalk.{Walk, allRead, cutAt, readAt, recordsFrom, recordsOf, AllShort, Sheet, sound, faulty, keep, breaksKind, Rule, tested, ruled}
+use Rattle.options.specs.Writing.{writerRules, sheet}
 use Rattle.theorems.proofs.View.{clash}
 use Rattle.writing_theorems.proofs.Written.{Distinct}
+use Rattle.writing_theorems.proofs.SheetView.{rec, lies-next, whole, Reads, r-none, r-record, reads}
 
 -- no rule is broken where the answer is no refusal
-abbrev Kept : List Rule → Type 0
-Kept [] = Unit {0}
-Kept (t ∷ ts) = (t .breaks ≡ false) × Kept ts
+abbrev pub Kept : List Rule → List ℕ → Rec → Type 0
+Kept [] seen r = Unit {0}
+Kept (x ∷ xs) seen r = (x .breaks seen r ≡ false) × Kept xs seen r
 
-passed : (ts : List Rule) (at : ℕ) (w : Sheet) (rs : List Rec) → tested ts at w ≡ sound rs → Kept ts × (w ≡ sound rs)
-passed [] at w rs e = (tt, e)
-passed (t ∷ ts) at w rs e = go (t .breaks) refl (passed ts at w rs) e
+passed : (xs : List Rule) (seen : List ℕ) (at : ℕ) (r : Rec) (w : Sheet) (rs : List Rec) → tested xs seen at r w ≡ sound rs → Kept xs seen r × (w ≡ sound rs)
+passed [] seen at r w rs e = (tt, e)
+passed (x ∷ xs) seen at r w rs e = go (x .breaks seen r) refl (passed xs seen at r w rs) e
   where
-    go : (b : Bool) → t .breaks ≡ b → (tested ts at w ≡ sound rs → Kept ts × (w ≡ sound rs)) → cond b (faulty (t .gives) at) (tested ts at w) ≡ sound rs
-        → Kept (t ∷ ts) × (w ≡ sound rs)
+    go : (b : Bool) → x .breaks seen r ≡ b → (tested xs seen at r w ≡ sound rs → Kept xs seen r × (w ≡ sound rs)) → cond b (faulty (x .gives r) at) (tested xs seen at r w) ≡ sound rs
+        → Kept (x ∷ xs) seen r × (w ≡ sound rs)
     go true q ih z = clash (cc)
     go false q ih z = ((q, ih z .0), ih z .1)
 
@@ -42,82 +44,66 @@ neither : (a b : Bool) → either a b ≡ false → (a ≡ false) × (b ≡ fals
 neither true b e = clash (cc)
 neither false b e = (refl, e)
 
--- an accepted record and what follows it are the bytes
-whole : (b : ℕ) (bs ts : List ℕ) → recordCut bs ≡ false → ltb 255 (sizeIn bs) ≡ false → ts ≡ drop (suc (suc (sizeIn bs))) bs
-    → (b ∷ length (sheetRecord b bs .body) / 256 ∷ length (sheetRecord b bs .body) % 256 ∷ sheetRecord b bs .body) ++ ts ≡ b ∷ bs
-whole b [] ts e f q = clash (cc)
-whole b (h ∷ []) ts e f q = clash (cc)
-whole b (h ∷ l ∷ ds) ts e f q =
-    let n : ℕ = 256 * h + l in
-    let le : n ≤ 255 = ltb-false 255 (256 * h + l) f in
-    let len : length (take (256 * h + l) ds) ≡ 256 * h + l = length-take-le n ds (ltb-false (length ds) (256 * h + l) e) in
-    let hi : (256 * h + l) / 256 ≡ h = omega arith in
-    let lo : (256 * h + l) % 256 ≡ l = omega arith in
-    let ends : take (256 * h + l) ds ++ ts ≡ ds = rw q (take-append-drop n ds) in
-    ap₂ (λ (x : ℕ) (y : List ℕ). b ∷ x ∷ y) (ap (λ (x : ℕ). x / 256) len ∙ hi) (ap₂ (λ (x : ℕ) (y : List ℕ). x ∷ y) (ap (λ (x : ℕ). x % 256) len ∙ lo) ends)
+-- a walk that no rule refuses: its records, each with what keeps the rules
+data Passes (rules : List Rule) : List ℕ → Walk → List Rec → Type 0 where
+  p-none : {seen : List ℕ} → Passes rules seen allRead []
+  p-record : {seen : List ℕ} {i : ℕ} {r : Rec} {w : Walk} {rs : List Rec} → Kept rules seen r → Passes rules (r .tag ∷ seen) w rs → Passes rules seen (readAt i r w) (r ∷ rs)
 
--- an accepted sheet is the bytes of its records
-pub sheet-back : (t : Table) (seen : List ℕ) (at k : ℕ) (xs : List ℕ) (rs : List Rec) → sheetFrom t seen at k xs ≡ sound rs → recordBytes rs ≡ drop k xs
-unfolding sheetFrom recordBytes
-sheet-back t seen at zero [] rs e = rw (← sound-inj [] rs e)
-sheet-back t seen at zero (b ∷ bs) rs e =
-    let p : Kept (rules t seen b bs) × (keep (sheetRecord b bs) (sheetFrom t (b ∷ seen) (at + 1) (suc (suc (sizeIn bs))) bs) ≡ sound rs) = passed (rules t seen b bs) at _ rs e in
-    let q : (ts : List Rec) × (sheetFrom t (b ∷ seen) (at + 1) (suc (suc (sizeIn bs))) bs ≡ sound ts) × (rs ≡ sheetRecord b bs ∷ ts) = kept (sheetRecord b bs) _ rs (p .1) in
-    let ih : recordBytes (q .0) ≡ drop (suc (suc (sizeIn bs))) bs = sheet-back t (b ∷ seen) (at + 1) (suc (suc (sizeIn bs))) bs (q .0) (q .1) in
-    rw (q .2) (whole b bs (recordBytes (q .0)) (p .0 .0) (p .0 .1 .1 .0) ih)
-sheet-back t seen at (suc k) [] rs e = rw (← sound-inj [] rs e)
-sheet-back t seen at (suc k) (b ∷ bs) rs e = sheet-back t seen (at + 1) k bs rs e
+passes : (rules : List Rule) (seen : List ℕ) (w : Walk) (rs : List Rec) → ruled rules seen w ≡ sound rs → Passes rules seen w rs
+unfolding ruled
+passes rules seen allRead rs e = subst (Passes rules seen allRead) (sound-inj [] rs e) p-none
+passes rules seen (cutAt i) rs e = clash (cc)
+passes rules seen (readAt i r w) rs e =
+    let p = passed rules seen i r (keep r (ruled rules (r .tag ∷ seen) w)) rs e in
+    let q = kept r (ruled rules (r .tag ∷ seen) w) rs (p .1) in
+    subst (Passes rules seen (readAt i r w)) (sym (q .2)) (p-record (p .0) (passes rules (r .tag ∷ seen) w (q .0) (q .1)))
 
-pub sheet-distinct : (t : Table) (seen : List ℕ) (at k : ℕ) (xs : List ℕ) (rs : List Rec) → sheetFrom t seen at k xs ≡ sound rs → Distinct seen rs
-unfolding sheetFrom
-sheet-distinct t seen at zero [] rs e = rw (← sound-inj [] rs e) tt
-sheet-distinct t seen at zero (b ∷ bs) rs e =
-    let p : Kept (rules t seen b bs) × (keep (sheetRecord b bs) (sheetFrom t (b ∷ seen) (at + 1) (suc (suc (sizeIn bs))) bs) ≡ sound rs) = passed (rules t seen b bs) at _ rs e in
-    let q : (ts : List Rec) × (sheetFrom t (b ∷ seen) (at + 1) (suc (suc (sizeIn bs))) bs ≡ sound ts) × (rs ≡ sheetRecord b bs ∷ ts) = kept (sheetRecord b bs) _ rs (p .1) in
-    let n0 : (eqb b 0 ≡ false) × (either (eqb b 52) (eqb b 255) ≡ false) = neither (eqb b 0) _ (p .0 .1 .0) in
-    let n5 : (eqb b 52 ≡ false) × (eqb b 255 ≡ false) = neither (eqb b 52) _ (n0 .1) in
-    rw (q .2)
-    (record { no-pad = n0 .0; no-end = n5 .1; no-52 = n5 .0; fresh = p .0 .1 .1 .1 .0 }, sheet-distinct t (b ∷ seen) (at + 1) (suc (suc (sizeIn bs))) bs (q .0) (q .1))
-sheet-distinct t seen at (suc k) [] rs e = rw (← sound-inj [] rs e) tt
-sheet-distinct t seen at (suc k) (b ∷ bs) rs e = sheet-distinct t seen (at + 1) k bs rs e
+passed-records : {rules : List Rule} {seen : List ℕ} {w : Walk} {rs : List Rec} → Passes rules seen w rs → recordsOf w ≡ rs
+unfolding recordsOf
+passed-records p-none = refl
+passed-records (p-record {r = r} k p) = ap (λ (ts : List Rec). r ∷ ts) (passed-records p)
+
+-- what no rule refuses is all that was read
+pub sound-records : (rules : List Rule) (seen : List ℕ) (w : Walk) (rs : List Rec) → ruled rules seen w ≡ sound rs → recordsOf w ≡ rs
+sound-records rules seen w rs e = passed-records (passes rules seen w rs e)
 
 -- no record breaks its kind
 abbrev pub AllKinds : Table → List Rec → Type 0
 AllKinds t [] = Unit {0}
 AllKinds t (r ∷ rs) = (breaksKind t (r .tag) (r .body) ≡ false) × AllKinds t rs
 
-pub sheet-kinds : (t : Table) (seen : List ℕ) (at k : ℕ) (xs : List ℕ) (rs : List Rec) → sheetFrom t seen at k xs ≡ sound rs → AllKinds t rs
-unfolding sheetFrom
-sheet-kinds t seen at zero [] rs e = rw (← sound-inj [] rs e) tt
-sheet-kinds t seen at zero (b ∷ bs) rs e =
-    let p : Kept (rules t seen b bs) × (keep (sheetRecord b bs) (sheetFrom t (b ∷ seen) (at + 1) (suc (suc (sizeIn bs))) bs) ≡ sound rs) = passed (rules t seen b bs) at _ rs e in
-    let q : (ts : List Rec) × (sheetFrom t (b ∷ seen) (at + 1) (suc (suc (sizeIn bs))) bs ≡ sound ts) × (rs ≡ sheetRecord b bs ∷ ts) = kept (sheetRecord b bs) _ rs (p .1) in
-    rw (q .2) (p .0 .1 .1 .1 .1 .0, sheet-kinds t (b ∷ seen) (at + 1) (suc (suc (sizeIn bs))) bs (q .0) (q .1))
-sheet-kinds t seen at (suc k) [] rs e = rw (← sound-inj [] rs e) tt
-sheet-kinds t seen at (suc k) (b ∷ bs) rs e = sheet-kinds t seen (at + 1) k bs rs e
+-- an accepted sheet is the bytes of its records; their tags are right and distinct, and none is too long or breaks its kind
+pub record Sound (t : Table) (s seen : List ℕ) (i : ℕ) (rs : List Rec) : Type 0 where
+  pub back : recordBytes rs ≡ drop i s
+  pub distinct : Distinct seen rs
+  pub short : AllShort rs
+  pub in-kinds : AllKinds t rs
 
--- no record has more than 255 bytes of data
-abbrev pub AllShort : List Rec → Type 0
-AllShort [] = Unit {0}
-AllShort (r ∷ rs) = (length (r .body) ≤ 255) × AllShort rs
+right-tag : (c : ℕ) → among c (0 ∷ 52 ∷ 255 ∷ []) ≡ false → (eqb c 0 ≡ false) × (eqb c 52 ≡ false) × (eqb c 255 ≡ false)
+right-tag c e =
+    let a = neither (eqb c 0) (among c (52 ∷ 255 ∷ [])) e in
+    let b = neither (eqb c 52) (among c (255 ∷ [])) (a .1) in
+    (a .0, b .0, neither (eqb c 255) false (b .1) .0)
 
-body-short : (b : ℕ) (bs : List ℕ) → ltb 255 (sizeIn bs) ≡ false → length (sheetRecord b bs .body) ≤ 255
-body-short b bs e = omega (arith, length-take (sizeIn bs) (drop 2 bs), ltb-false 255 (sizeIn bs) e)
+sound-from : (t : Table) {s seen : List ℕ} {i : ℕ} {w : Walk} {rs : List Rec} → Reads s i w → Passes (writerRules t) seen w rs → Sound t s seen i rs
+unfolding recordBytes
+sound-from t (r-none e) p-none = record { back = sym e; distinct = tt; short = tt; in-kinds = tt }
+sound-from t {s} {seen} (r-record {c = c} {d = d} o g) (p-record {rs = rs} k p) =
+    let tail : Sound t s (c ∷ seen) _ rs = sound-from t g p in
+    let tag = right-tag c (k .0) in
+    let short : length d ≤ 255 = ltb-false 255 (length d) (k .1 .0) in
+    record {
+      back = whole rs o (omega (arith, o .size)) (tail .back ∙ lies-next o);
+      distinct = (record { no-pad = tag .0; no-end = tag .2; no-52 = tag .1; fresh = k .1 .1 .0 }, tail .distinct);
+      short = (short, tail .short);
+      in-kinds = (k .1 .1 .1 .0, tail .in-kinds);
+    }
 
-pub sheet-short : (t : Table) (seen : List ℕ) (at k : ℕ) (xs : List ℕ) (rs : List Rec) → sheetFrom t seen at k xs ≡ sound rs → AllShort rs
-unfolding sheetFrom
-sheet-short t seen at zero [] rs e = rw (← sound-inj [] rs e) tt
-sheet-short t seen at zero (b ∷ bs) rs e =
-    let p : Kept (rules t seen b bs) × (keep (sheetRecord b bs) (sheetFrom t (b ∷ seen) (at + 1) (suc (suc (sizeIn bs))) bs) ≡ sound rs) = passed (rules t seen b bs) at _ rs e in
-    let q : (ts : List Rec) × (sheetFrom t (b ∷ seen) (at + 1) (suc (suc (sizeIn bs))) bs ≡ sound ts) × (rs ≡ sheetRecord b bs ∷ ts) = kept (sheetRecord b bs) _ rs (p .1) in
-    rw (q .2) (body-short b bs (p .0 .1 .1 .0), sheet-short t (b ∷ seen) (at + 1) (suc (suc (sizeIn bs))) bs (q .0) (q .1))
-sheet-short t seen at (suc k) [] rs e = rw (← sound-inj [] rs e) tt
-sheet-short t seen at (suc k) (b ∷ bs) rs e = sheet-short t seen (at + 1) k bs rs e
+pub sound-sheet : (t : Table) (s : List ℕ) (rs : List Rec) → sheet t s ≡ sound rs → Sound t s [] 0 rs
+unfolding sheet
+sound-sheet t s rs e = sound-from t (reads s) (passes (writerRules t) [] (recordsFrom 0 0 s) rs e)
 
 -- ---- a record of a sheet
-
-abbrev pub rec : ℕ → List ℕ → Rec
-rec c d = record { tag = c; body = d }
 
 abbrev pub Has : Rec → List Rec → Type 0
 Has r [] = ⊥

@@ -4,6 +4,8 @@ header, the keys of the rules against the definitions that name them, the decisi
 against what is counted. The last line is 'N checked, M wrong'.
 """
 import re
+import shutil
+import subprocess
 import sys
 from pathlib import Path
 
@@ -193,12 +195,20 @@ def instructions():
         check(not re.search(r"\d instructions", page(name)), f"{name}: a count of instructions")
 
 
+def toolchain():
+    """README.md names the toolchain that is here, if one is."""
+    if shutil.which("rt"):
+        version = subprocess.run(["rt", "version"], capture_output=True, text=True).stdout.strip()
+        check(version in page("README.md"), f"README.md: the toolchain is {version}")
+
+
 rules_text, names = of_rules()
 of_api(names)
 keys(rules_text)
 decisions()
 counts()
 instructions()
+toolchain()
 for line in wrong:
     print(line)
 print(f"{checked} checked, {len(wrong)} wrong")

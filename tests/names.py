@@ -1,5 +1,6 @@
 #!/usr/bin/env python3
-"""Every name that docs/ARCHITECTURE.md and docs/DECISIONS.md put in backquotes is in the tree, and so is every must-fail edit that they name.
+"""Every name that docs/ARCHITECTURE.md and docs/DECISIONS.md put in backquotes is in the tree. So is every must-fail edit that they name, and every
+test case that a table of theirs quotes under "Vector", "Vector or case" or "Sheet or case".
 
 A name is looked for where it says it is: `crate::name` in the code of that crate, `Module.name` in a file Module.antt, a path as a path, any other
 name in the code, definitions, proofs, tests and examples, comments left out. With words as arguments it checks those pages instead.
@@ -78,8 +79,23 @@ def names_of(text):
             yield f"crates/{crate}/must-fail/{name}.edit"
 
 
+def cases_of(text):
+    """What stands in quotes in the last column of a table of cases."""
+    column = False
+    for line in text.split("\n"):
+        cells = [cell.strip() for cell in line.strip("|").split("|")] if line.startswith("|") else []
+        if not cells:
+            column = False
+        elif cells[-1] in ("Vector", "Vector or case", "Sheet or case"):
+            column = True
+        elif column:
+            yield from re.findall(r'"([^"]+)"', cells[-1])
+
+
 def main():
     tree = Tree()
+    made = re.findall(r'"([^"\n]+)"', (ROOT / "tests/vectors/make.py").read_text() + (ROOT / "tests/sheets/make.py").read_text())
+    made = re.compile("|".join(re.sub(r"\\\{\w+\\\}", ".+", re.escape(text)) for text in set(made) if len(re.sub(r"{\w+}", "", text)) > 3))
     count, missing = 0, []
     for page in sys.argv[1:] or PAGES:
         for token in names_of((ROOT / page).read_text()):
@@ -89,6 +105,10 @@ def main():
             count += 1
             if not there:
                 missing.append(f"{page}: `{token}`")
+        for case in cases_of((ROOT / page).read_text()):
+            count += 1
+            if not made.fullmatch(case):
+                missing.append(f'{page}: the case "{case}"')
     for line in missing:
         print(line)
     print(f"{count} names, {len(missing)} missing")

@@ -7,7 +7,8 @@ ghost use Rattle.message.specs.Part.{partAt};
 ghost use Rattle.options.specs.Kinds.{kinds};
 ghost use Rattle.options.specs.CodeSet.{marked};
 ghost use Rattle.options.specs.Answers.{lookup, bytesOf, dataOf, textIn, textOf};
-ghost use Rattle.lookup.specs.Shown.{answerOf, valueOf, Within, foundIn, extentOf, extentIn, clipped};
+ghost use Rattle.lookup.specs.Shown.{answerOf, extentOf};
+ghost use Rattle.lookup.specs.Found.{valueOf, Within, foundIn, extentIn, clipped};
 use wire::Walked;
 
 // The answer to a lookup; a broken option is the lookup's refusal, with 8 or 9.

@@ -1,8 +1,6 @@
 // Reads settings sheets from standard input, writes each into a buffer, and prints what was written (tests/sheets/README.md).
 mod print;
 
-use writer::Wrote;
-
 // Fills buf with first, first + 1 and so on, modulo 256, so that a byte that is moved or changed shows.
 fn fill(buf: &mut [u8], first: u8) {
     let mut x = first;
@@ -16,10 +14,11 @@ fn fill(buf: &mut [u8], first: u8) {
 
 // The lines of one sheet.
 fn one(sheet: &[u8], buf: &mut [u8], permission: u8) {
-    let w = writer::write(sheet, buf, permission);
-    match w {
-        Wrote::Plan(plan) => print::written(plan, sheet, buf),
-        Wrote::Refused { number, place } => print::refused(number, place, buf),
+    let w = dhcpopt_writer::dhcpopt_write(sheet, buf, permission);
+    if w.refusal == 0 {
+        print::written(w.plan, sheet, buf);
+    } else {
+        print::refused(w.refusal, w.place, buf);
     }
     console::word(b"-\n");
 }

@@ -1,4 +1,4 @@
--- `vectors::print::distance` is safe: x fits 32 bits, and so does -1 - x where x is below 0. Assumes nothing.
+-- `console::distance` is safe: x fits 64 bits, and so does -1 - x where x is below 0. Assumes nothing.
 use borrow.Author.Needs.{needs}
 use borrow.Author.Tests.{ltb-true, le-ltb}
 use mathlib.Core.Path.{_≡_, ap, _∙_}
@@ -8,30 +8,30 @@ use native.Mathlib.Omega.{arith}
 use lib.Dec.{T}
 use lib.IntN.{ℤ, pos, negsuc, natAbs, _-ℤ_}
 use lib.Signed.{mag, nonNeg, ltZ}
-use mir.Syntax.{w32, w64}
+use mir.Syntax.{w64}
 use mir.Val.{SFits, Fits, toZ, ofZ}
 use mir.ValLaws.{toZ-ofZ}
-use Rattle.vectors.proofs.print.distance.Statement.{statement}
-use Rattle.vectors.proofs.print.distance.Tie as tie
+use Rattle.console.proofs.distance.Statement.{statement}
+use Rattle.console.proofs.distance.Tie as tie
 
 mirror : (y : ℤ) → ltZ y (pos 0) ≡ true → negsuc 0 -ℤ y ≡ pos (mag y)
 mirror (pos n) e = absurd (omega (arith, ltb-true n 0 e))
 mirror (negsuc n) e = let p : suc n - 1 ≡ n = omega arith in rw (le-ltb (suc n) 1 (omega arith)) (ap pos p)
 
-above : (y : ℤ) → ltZ y (pos 0) ≡ false → SFits w32 y → T (nonNeg y) × Fits w64 (natAbs y)
+above : (y : ℤ) → ltZ y (pos 0) ≡ false → SFits w64 y → T (nonNeg y) × Fits w64 (natAbs y)
 above (pos n) e f = (tt, record { fits = omega (arith, f .sfits) })
 above (negsuc n) e f = let z : _≡_ {A = ℕ} 0 1 = cc in absurd (omega arith)
 
-module _ (y : ℤ) (e : ltZ y (pos 0) ≡ true) (f : SFits w32 y) where
-  fits-below : SFits w32 (negsuc 0 -ℤ y)
+module _ (y : ℤ) (e : ltZ y (pos 0) ≡ true) (f : SFits w64 y) where
+  fits-below : SFits w64 (negsuc 0 -ℤ y)
   fits-below = rw (mirror y e) (record { sfits = f .sfits })
 
-  back : toZ w32 (ofZ w32 (negsuc 0 -ℤ y)) ≡ pos (mag y)
-  back = toZ-ofZ w32 (negsuc 0 -ℤ y) fits-below ∙ mirror y e
+  back : toZ w64 (ofZ w64 (negsuc 0 -ℤ y)) ≡ pos (mag y)
+  back = toZ-ofZ w64 (negsuc 0 -ℤ y) fits-below ∙ mirror y e
 
--- what the machine reads of x fits 32 bits
-read : (c : tie.Start) → SFits w32 (toZ w32 (ofZ w32 (c .args .x)))
-read c = let f : SFits w32 (c .args .x) = search needs in rw (toZ-ofZ w32 (c .args .x) f) f
+-- what the machine reads of x fits 64 bits
+read : (c : tie.Start) → SFits w64 (toZ w64 (ofZ w64 (c .args .x)))
+read c = let f : SFits w64 (c .args .x) = search needs in rw (toZ-ofZ w64 (c .args .x) f) f
 
 sub-k : tie.Need-sub-k
 sub-k c = fits-below _ (c .if1 .taken) (read (c .before))

@@ -1,9 +1,9 @@
--- `sheets::print::hex` is safe and ends. The measure is what is left of the bytes. Assumes nothing.
+-- `console::hex` is safe and ends. The measure is what is left of the bytes. Assumes nothing.
 use borrow.Author.Needs.{needs}
 use Prim.Native.Nat.{_-_, _≤_}
 use lib.ListN.{length}
-use Rattle.sheets.proofs.print.hex.Statement.{statement}
-use Rattle.sheets.proofs.print.hex.Tie as tie
+use Rattle.console.proofs.hex.Statement.{statement}
+use Rattle.console.proofs.hex.Tie as tie
 
 abbrev Inv-loop : tie.InvT-loop
 Inv-loop s i₀ i = i ≤ length s

@@ -1,11 +1,12 @@
 -- How many bytes the options of an accepted message take, and how many options there are: all of them lie within the fields. Assumes nothing.
-use mathlib.Core.Path.{_≡_, subst}
+use mathlib.Core.Path.{_≡_, ap, _∙_, subst}
 use mathlib.Core.List.{List, [], _∷_, _++_}
 use mathlib.Core.Bool.{Bool, true, false, cond}
 use Prim.Native.Nat.{ℕ, _+_, _*_, _≤_}
 use native.Mathlib.Omega.{arith}
 use native.Mathlib.Decide.{decLt}
 use lib.ListN.{length, take, drop, length-take, length-drop}
+use lib.Seq.{drop-drop}
 use lib.Dec.{ltb}
 use Rattle.options.specs.Message.{Field, options, file, sname, start, bytes, shortest, longest, cookie, Opt, opt}
 use Rattle.options.specs.Refusals.{row-2}
@@ -14,7 +15,7 @@ use Rattle.options.specs.Writing.{size}
 use Rattle.options.specs.ReadingClaims.{IsAccepted}
 use Rattle.theorems.proofs.View.{Reads, r-none, r-pad, r-end, r-beyond, r-option, reads}
 use Rattle.theorems.proofs.Fields.{below, option-in}
-use Rattle.theorems.proofs.Reading.{no-row-of}
+use Rattle.theorems.proofs.Reading.{no-row-of, inner}
 
 -- "One option takes 2 bytes more than its data"
 abbrev pub taken : List Opt → ℕ
@@ -105,6 +106,17 @@ pub field-le : (fd : Field) (m : List ℕ) → length (bytes fd m) ≤ length m
 field-le options m = omega (arith, length-drop 240 m)
 field-le file m = omega (arith, length-take 128 (drop 108 m), length-drop 108 m)
 field-le sname m = omega (arith, length-take 64 (drop 44 m), length-drop 44 m)
+
+-- what stands in a field stands in the message, from the field's first byte on
+pub field-within : (fd : Field) (m : List ℕ) (k : ℕ) → 1 ≤ k → k ≤ length (bytes fd m) → start fd + k ≤ length m
+field-within options m k l h = omega (arith, length-drop 240 m)
+field-within file m k l h = omega (arith, length-take 128 (drop 108 m), length-drop 108 m)
+field-within sname m k l h = omega (arith, length-take 64 (drop 44 m), length-drop 44 m)
+
+pub field-part : (fd : Field) (m : List ℕ) (j n : ℕ) → j + n ≤ length (bytes fd m) → take n (drop j (bytes fd m)) ≡ take n (drop (start fd + j) m)
+field-part options m j n h = ap (take n) (drop-drop j 240 m)
+field-part file m j n h = inner j 128 n (drop 108 m) (omega (arith, length-take 128 (drop 108 m))) ∙ ap (take n) (drop-drop j 108 m)
+field-part sname m j n h = inner j 64 n (drop 44 m) (omega (arith, length-take 64 (drop 44 m))) ∙ ap (take n) (drop-drop j 44 m)
 
 module _ (m : List ℕ) (a : IsAccepted m) where
   pub message-short : length m ≤ 1472

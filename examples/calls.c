@@ -62,7 +62,7 @@ static void lookup(void)
     CHECK(answers(dhcpopt_lookup_known(message, n, NONE, 53), DHCPOPT_STATUS_UNKNOWN, DHCPOPT_KIND_NONE, 0, 242, 1));
     CHECK(refuses(dhcpopt_lookup_known(message, n, all, 0), DHCPOPT_REFUSED_BAD_CODE, 0));
     CHECK(refuses(dhcpopt_lookup_known(message, 239, all, 53), DHCPOPT_REFUSED_TOO_SHORT, 239));
-    n = MESSAGE("\x35\x01\x09\xff"); /* 2 */
+    n = MESSAGE("\x35\x01\xff\xff"); /* as 2, with a value far from any right one */
     CHECK(refuses(dhcpopt_lookup_known(message, n, all, 53), DHCPOPT_REFUSED_BAD_VALUE, 240));
     n = MESSAGE("\x02\x04\xff\xff\xf1\xf0\xff"); /* 5 */
     CHECK(answers(dhcpopt_lookup_known(message, n, all, 2), DHCPOPT_STATUS_NUMBER, DHCPOPT_KIND_INT32, -3600, 0, 0));

@@ -1,5 +1,5 @@
 /*
- * The options of one DHCPv4 message (RFC 2131, RFC 2132): a reader and a writer, for C11 and C++17 on x86-64.
+ * The options of one DHCPv4 message (RFC 2131, RFC 2132): a reader and a writer, for C11 and C++17 on x86-64 Linux.
  *
  * libdhcpopt_reader.a has every call but dhcpopt_write, and libdhcpopt_writer.a has that one alone, so a meter that only
  * reads links the reader's archive alone. docs/C-API.md has an example of each call.
@@ -15,6 +15,18 @@
 #ifndef DHCPOPT_H
 #define DHCPOPT_H
 
+#if !defined(__x86_64__) || defined(__ILP32__) || !defined(__linux__)
+#error "dhcpopt.h: the archives are compiled for x86-64 Linux alone. docs/C-API.md, 'Another machine', says what to do."
+#endif
+
+/*
+ * The version of this header: 100 * major + minor. The major number grows where a program must change (a call, a struct, the meaning
+ * of an answer), the minor one where calls or names are added. The archives carry no version: take header and archives from one state.
+ */
+#define DHCPOPT_VERSION_MAJOR 1
+#define DHCPOPT_VERSION_MINOR 0
+#define DHCPOPT_VERSION (100 * DHCPOPT_VERSION_MAJOR + DHCPOPT_VERSION_MINOR)
+
 #include <stddef.h>
 #include <stdint.h>
 
@@ -22,8 +34,13 @@
 extern "C" {
 #endif
 
+/*
+ * The members of the structs are uint32_t, so that their size is certain. A switch over a cast, such as (enum dhcpopt_kind)a.kind, lets
+ * the compiler tell of a case that was left out.
+ */
+
 /* Where the fields of a message stand. The options field goes on to the message's end. */
-enum {
+enum dhcpopt_layout {
     DHCPOPT_HEADER_SIZE = 44, /* op to chaddr: the caller's, neither read nor written */
     DHCPOPT_SNAME_OFFSET = 44,
     DHCPOPT_SNAME_SIZE = 64,
@@ -35,14 +52,14 @@ enum {
 };
 
 /* Sizes in bytes. */
-enum {
+enum dhcpopt_limit {
     DHCPOPT_SHORTEST_MESSAGE = 240,
     DHCPOPT_LONGEST_MESSAGE = 1472,
     DHCPOPT_LONGEST_SHEET = 4096 /* that dhcpopt_write takes. The records of a message are always shorter */
 };
 
 /* What a lookup found. */
-enum {
+enum dhcpopt_status {
     DHCPOPT_STATUS_ABSENT = 0,
     DHCPOPT_STATUS_UNKNOWN = 1, /* the code is not in the known set, or has no kind: start and length of its data */
     DHCPOPT_STATUS_REFUSED = 2, /* refusal and place */
@@ -51,7 +68,7 @@ enum {
 };
 
 /* The kind of an option. Behind each: whether a lookup gives a number or a part. */
-enum {
+enum dhcpopt_kind {
     DHCPOPT_KIND_NONE = 0,
     DHCPOPT_KIND_ADDRESS = 1,       /* number: 192.0.2.1 is 0xC0000201 */
     DHCPOPT_KIND_ADDRESS_LIST = 2,  /* part, for dhcpopt_address_step */
@@ -70,7 +87,7 @@ enum {
  * Why a call is refused, and after the colon what its place then is.
  * Reading gives 1 to 11, and 8 and 9 only from the lookup. Writing gives 1, 2 and 7 to 16.
  */
-enum {
+enum dhcpopt_refusal {
     DHCPOPT_NOT_REFUSED = 0,
     DHCPOPT_REFUSED_TOO_SHORT = 1,           /* message or buffer under 240 bytes: its length */
     DHCPOPT_REFUSED_TOO_LONG = 2,            /* message or buffer over 1,472 bytes: its length */
@@ -91,14 +108,14 @@ enum {
 };
 
 /* Permissions to overload, and the plans that the writer may then use: the value of option 52, or 0 without it. */
-enum {
+enum dhcpopt_overload {
     DHCPOPT_OVERLOAD_NONE = 0,
     DHCPOPT_OVERLOAD_FILE = 1,
     DHCPOPT_OVERLOAD_SNAME = 2,
     DHCPOPT_OVERLOAD_BOTH = 3 /* as a permission: either or both */
 };
 
-/* A lookup's answer. status says which members it gives. */
+/* A lookup's answer. status says which members it gives. Bytes between members are left unset: compare members, not bytes. */
 typedef struct {
     uint32_t status;  /* DHCPOPT_STATUS_* */
     uint32_t kind;    /* DHCPOPT_KIND_* */

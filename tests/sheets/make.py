@@ -73,6 +73,7 @@ NAME = "0C 00 02 61 62 "          # 12, a text: 4 bytes
 LEASE = "33 00 04 00 00 0E 10 "   # 51 is 3600: 6 bytes
 MASK = "01 00 04 FF FF FF 00 "    # 1: 6 bytes
 ROUTER = "03 00 04 0A 00 00 01 "  # 3: 6 bytes
+BROKEN = "35 00 01 FF "           # 53 with a value that is wrong by any rule of a message type: 9
 DOMAIN = "0F 00 01 61 "           # 15, a text: 3 bytes
 
 NAME_IN_FILE = "plan 1 | options 34 01 01 FF zeros 0 | file 0C 02 61 62 FF zeros 123 | accepted 2"
@@ -290,7 +291,7 @@ CONTENT = [
     *[(f"buffer from {fill} on, file used", 1, 244, NAME, NAME_IN_FILE, fill) for fill in (0, 119, 148, 255)],
     *[(f"buffer from {fill} on, sname used", 2, 244, NAME, NAME_IN_SNAME, fill) for fill in (0, 119, 212, 255)],
     ("buffer from 0 on, refused", 0, 244, NAME, "refused 11 244", 0),
-    ("buffer from 255 on, refused", 3, 1472, "35 00 01 09", "refused 9 0", 255),
+    ("buffer from 255 on, refused", 3, 1472, BROKEN, "refused 9 0", 255),
 ]
 
 # A record's faults in the order 12, 10, 13, 7, 8, 9: each with its place, alone and beside the later ones.
@@ -360,22 +361,22 @@ FAULTS = [
     ("7: 128 again", 0, 300, "80 00 00 40 00 01 61 80 00 00", "refused 7 7"),
     ("7 before 8: length 2", 0, 300, TYPE + "35 00 02 05 05", "refused 7 4"),
     ("7 before 8: length 0", 0, 300, TYPE + "35 00 00", "refused 7 4"),
-    ("7 before 9", 0, 300, TYPE + "35 00 01 09", "refused 7 4"),
+    ("7 before 9", 0, 300, TYPE + BROKEN, "refused 7 4"),
     # 8, 9: see KINDS for each code
     ("8: first", 0, 300, "35 00 02 05 00", "refused 8 0"),
     ("8: later", 0, 300, LEASE + "35 00 02 05 00", "refused 8 7"),
-    ("9: first", 0, 300, "35 00 01 09", "refused 9 0"),
+    ("9: first", 0, 300, BROKEN, "refused 9 0"),
     ("9: later", 0, 300, LEASE + DOMAIN + "35 00 01 00", "refused 9 11"),
     ("8 before 9", 0, 300, "35 00 02 00 00", "refused 8 0"),
     ("8 before 9, later", 0, 300, TYPE + "21 00 04 00 00 00 00", "refused 8 4"),
 
     # Two faulty records: the first counts, whatever its number.
-    ("9, then 12", 0, 300, "35 00 01 09 C8", "refused 9 0"),
+    ("9, then 12", 0, 300, BROKEN + "C8", "refused 9 0"),
     ("8, then 12", 0, 300, "35 00 00 C8 00", "refused 8 0"),
     ("7, then 12", 0, 300, BARE + BARE + "C8 FF FF", "refused 7 3"),
     ("13, then 12", 3, 1472, "C8 01 00" + ramp(256) + "C9", "refused 13 0"),
     ("10, then 12", 0, 300, "34 00 01 01 35", "refused 10 0"),
-    ("9, then 10", 0, 300, "35 00 01 09 00 00 00", "refused 9 0"),
+    ("9, then 10", 0, 300, BROKEN + "00 00 00", "refused 9 0"),
     ("8, then 10", 0, 300, "01 00 03 01 02 03 FF 00 00", "refused 8 0"),
     ("7, then 10", 0, 300, TYPE + TYPE + "00 00 00", "refused 7 4"),
     ("13, then 10", 3, 1472, "C8 01 00" + ramp(256) + "00 00 00", "refused 13 0"),
@@ -384,9 +385,9 @@ FAULTS = [
     ("7, then 13", 3, 1472, TYPE + TYPE + "C8 01 00" + ramp(256), "refused 7 4"),
     ("9, then 7", 0, 300, TYPE + "2E 00 01 03" + TYPE, "refused 9 4"),
     ("8, then 7", 0, 300, TYPE + "2E 00 00" + TYPE, "refused 8 4"),
-    ("9, then 7 of the same tag", 0, 300, "35 00 01 09" + TYPE, "refused 9 0"),
-    ("9, then 8", 0, 300, "35 00 01 09 2E 00 00", "refused 9 0"),
-    ("8, then 9", 0, 300, "2E 00 00 35 00 01 09", "refused 8 0"),
+    ("9, then 7 of the same tag", 0, 300, BROKEN + TYPE, "refused 9 0"),
+    ("9, then 8", 0, 300, BROKEN + "2E 00 00", "refused 9 0"),
+    ("8, then 9", 0, 300, "2E 00 00" + BROKEN, "refused 8 0"),
     ("10 twice", 0, 300, TYPE + "FF 00 00 00 00 00", "refused 10 4"),
 ]
 
@@ -415,8 +416,8 @@ ROUTER_FIRST = [
     ("7 before 14: 1 again", 0, 300, ROUTER + MASK + MASK, "refused 7 14"),
     ("8 before 14: tag 1 broken", 0, 300, ROUTER + "01 00 03 FF FF FF", "refused 8 7"),
     ("8 before 14: tag 3 broken", 0, 300, "03 00 03 0A 00 00" + MASK, "refused 8 0"),
-    ("9 before 14", 0, 300, ROUTER + MASK + "35 00 01 09", "refused 9 14"),
-    ("9 between 3 and 1", 0, 300, ROUTER + "35 00 01 09" + MASK, "refused 9 7"),
+    ("9 before 14", 0, 300, ROUTER + MASK + BROKEN, "refused 9 14"),
+    ("9 between 3 and 1", 0, 300, ROUTER + BROKEN + MASK, "refused 9 7"),
     ("14 before 11: no room for END", 0, 240, ROUTER + MASK, "refused 14 0"),
     ("14 before 11: one byte short", 0, 252, ROUTER + MASK, "refused 14 0"),
     ("14 before 11: with every plan", 3, 241, TYPE + ROUTER + MASK, "refused 14 4"),
@@ -440,7 +441,7 @@ SHEETS = [
      "".join(record(c, ramp(255)) for c in range(200, 214)) + "D7 00 DE" + ramp(222) + "D8 01 00" + ramp(256), "refused 13 3837"),
     ("4,096 bytes, met again at the end", 3, 1472, LONG + "C8 00 DF" + ramp(223), "refused 7 3870"),
     ("4,096 bytes, 8 at the end", 3, 1472, LONG + "D7 00 DB" + ramp(219) + "01 00 01 FF", "refused 8 4092"),
-    ("4,096 bytes, 9 at the end", 3, 1472, LONG + "D7 00 DB" + ramp(219) + "35 00 01 09", "refused 9 4092"),
+    ("4,096 bytes, 9 at the end", 3, 1472, LONG + "D7 00 DB" + ramp(219) + BROKEN, "refused 9 4092"),
     ("4,096 bytes, 3 first and 1 last", 3, 1472, ROUTER + LONG + "D7 00 D1" + ramp(209) + MASK, "refused 14 0"),
     ("4,096 bytes, 1 first and 3 last", 3, 1472, MASK + LONG + "D7 00 D1" + ramp(209) + ROUTER, "refused 11 1472"),
     ("4,095 bytes", 3, 1472, LONG + "D7 00 DE" + ramp(222), "refused 11 1472"),
@@ -461,7 +462,7 @@ SHEETS = [
     ("2 before 15", 4, 1473, TYPE, "refused 2 1473"),
     ("2 before 16", 0, 1473, "00" * 4097, "refused 2 1473"),
     ("2 before 15 and 16", 4, 1500, "00" * 4097, "refused 2 1500"),
-    ("2 before a record's fault", 3, 1473, "35 00 01 09", "refused 2 1473"),
+    ("2 before a record's fault", 3, 1473, BROKEN, "refused 2 1473"),
     ("15 before 16", 4, 300, "00" * 4097, "refused 15 0"),
     ("15 before a record's fault", 4, 300, TYPE + "35", "refused 15 0"),
     ("15 before 14", 255, 300, ROUTER + MASK, "refused 15 0"),

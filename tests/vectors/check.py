@@ -114,6 +114,7 @@ def extra():
     lines += [f"{code} {answer(zeros, every, code)}" for code in (12, 0)]
     lines += [f"data 12 {data(zeros, 12)}", f"text 12 {text(zeros, every, 12)}", "present 0 0 0 0 count 0 lowest 0"]
     lines += [f"records {printed(zeros).splitlines()[0]}"]
+    lines += [f"steps {code}{steps(m, code)}" for code in (3, 4, 6, 50)]
     return "".join(line + "\n" for line in lines)
 
 

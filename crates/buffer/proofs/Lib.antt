@@ -1,3 +1,4 @@
 pub mod Laws
 -- For callers
 pub mod Copied
+pub mod Writing

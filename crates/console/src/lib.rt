@@ -34,6 +34,42 @@ pub fn two(name: &[u8], a: usize, b: usize) {
     number(b as u64);
 }
 
+// How far x is from 0.
+fn distance(x: i64) -> u64 {
+    if x < 0 {
+        let k = -1 - x;
+        return k as u64 + 1;
+    }
+    x as u64
+}
+
+// A blank and a number that may be below 0.
+pub fn signed(x: i64) {
+    word(b" ");
+    if x < 0 {
+        word(b"-");
+    }
+    io::print_decimal(1, distance(x));
+}
+
+// A blank and a number for each byte.
+pub fn bytes(s: &[u8]) {
+    let mut i: usize = 0;
+    while i < s.len() {
+        number(wide(s[i]));
+        i = i + 1;
+    }
+}
+
+// Two hexadecimal digits for each byte.
+pub fn hex(s: &[u8]) {
+    let mut i: usize = 0;
+    while i < s.len() {
+        io::print_hex(1, wide(s[i]), 2);
+        i = i + 1;
+    }
+}
+
 // A number for a run of bytes: each byte adds itself to 31 times what was there.
 pub fn sum(s: &[u8]) -> u64
     ensures { λ r. ⌜ r ≡ sumOf 0 (now (s .entry)) ⌝ }

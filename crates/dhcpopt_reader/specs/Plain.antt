@@ -1,10 +1,14 @@
--- The answers as plain numbers, for C: each case with its values. Assumes nothing.
+-- THE ANSWERS AS PLAIN NUMBERS, FOR C: each case with its values. Every contract of this crate's calls rests on this file. Assumes nothing.
+use mathlib.Core.Path.{_≡_}
+use mathlib.Core.Bool.{cond}
+use mathlib.Core.List.{List}
 use Prim.Native.Nat.{ℕ}
+use lib.Dec.{eqb}
 use lib.IntN.{ℤ, pos}
 use Rattle.options.specs.Kinds.{Kind}
 use Rattle.options.specs.Answers as asked
-use Rattle.kinds.specs.Numbers.{numberOf}
-use Rattle.present.specs.Marked.{numberOf as refusalOf, placeOf}
+use Rattle.kinds.specs.Numbers.{numberOf, kindAt}
+use Rattle.present.specs.Marked.{numberOf as refusalOf, placeOf, verdictFrom}
 use Rattle.dhcpopt_reader.specs.declared.PlainAnswer.{PlainAnswer}
 use Rattle.dhcpopt_reader.specs.declared.PlainExtent.{PlainExtent}
 use Rattle.dhcpopt_reader.specs.declared.PlainAddress.{PlainAddress}
@@ -41,3 +45,45 @@ plainCodes r =
 abbrev pub plainFilled : asked.Given → PlainFilled
 plainFilled (asked.given n) = record { refusal = 0; size = n; place = 0 }
 plainFilled (asked.declined n p) = record { refusal = n; size = 0; place = p }
+
+-- ---- Nothing is lost: from what C gets, the answer can be had back
+
+abbrev pub answerFrom : PlainAnswer → asked.Answer
+answerFrom a =
+    cond (eqb (a .status) 0) asked.Absent
+    (cond (eqb (a .status) 1) (asked.Unknown (a .start) (a .length))
+    (cond (eqb (a .status) 2) (asked.Refused (a .refusal) (a .place))
+    (cond (eqb (a .status) 3) (asked.Number (kindAt (a .kind)) (a .number)) (asked.Part (kindAt (a .kind)) (a .start) (a .length)))))
+
+abbrev pub AnswerKept : Type 0
+AnswerKept = (a : asked.Answer) → answerFrom (plainAnswer a) ≡ a
+
+abbrev pub extentFrom : PlainExtent → asked.Extent
+extentFrom e = record { start = e .start; size = e .length }
+
+abbrev pub ExtentKept : Type 0
+ExtentKept = (e : asked.Extent) → extentFrom (plainExtent e) ≡ e
+
+abbrev pub stepFrom : PlainAddress → asked.AddressStep
+stepFrom a = cond (eqb (a .given) 1) (asked.next (a .address) (a .next)) asked.done
+
+abbrev pub AddressKept : Type 0
+AddressKept = (at : ℕ) (s : asked.AddressStep) → stepFrom (plainAddress at s) ≡ s
+
+-- after the last address the place stays
+abbrev pub DoneStays : Type 0
+DoneStays = (at : ℕ) → plainAddress at asked.done .next ≡ at
+
+abbrev pub presentFrom : PlainCodes → asked.Present
+presentFrom c = record { verdict = verdictFrom (c .refusal) (c .place); words = c .words; count = c .count; lowest = c .lowest }
+
+-- refusal 0 is no refusal's number
+abbrev pub CodesKept : Type 0
+CodesKept = (m : List ℕ) → presentFrom (plainCodes (asked.present m)) ≡ asked.present m
+
+abbrev pub givenFrom : PlainFilled → asked.Given
+givenFrom f = cond (eqb (f .refusal) 0) (asked.given (f .size)) (asked.declined (f .refusal) (f .place))
+
+-- refusal 0 is no refusal's number
+abbrev pub FilledKept : Type 0
+FilledKept = (m old : List ℕ) → givenFrom (plainFilled (asked.records m old .answer)) ≡ asked.records m old .answer

@@ -2,4 +2,3 @@
 pub mod Entries
 pub mod Numbering
 pub mod Walks
-pub mod Words

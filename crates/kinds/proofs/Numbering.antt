@@ -3,14 +3,14 @@ use mathlib.Core.Path.{_≡_, refl, sym, ap, _∙_}
 use mathlib.Core.Bool.{Bool, true, false, cond}
 use mathlib.Core.List.{List}
 use mathlib.Core.Option.{Option, none, some}
-use Prim.Native.Nat.{ℕ, zero, suc, _+_}
+use Prim.Native.Nat.{ℕ, zero, suc, _+_, _≤_}
 use native.Mathlib.Omega.{arith}
 use borrow.Author.Tests.{ne-eqb}
 use lib.Dec.{eqb}
 use lib.ListN.{length}
 use Rattle.options.specs.SheetWalk.{isBroken}
-use Rattle.options.specs.Kinds.{Kind, address, addresses, pairs, flag, octet, number16, numbers16, unsigned32, signed32, text, opaque, Value, broken, number, part, kindOf, lengthFits, valueFits, meaning, judged, kinds}
-use Rattle.kinds.specs.Numbers.{numberOf, kindNumber, kindAt, numberOfFault, faultOf}
+use Rattle.options.specs.Kinds.{Kind, address, addresses, pairs, flag, octet, number16, numbers16, unsigned32, signed32, text, opaque, Value, broken, number, part, kindOf, lengthFits, valueFits, meaning, judged, judgedBy, kinds}
+use Rattle.kinds.specs.Numbers.{numberOf, kindNumber, kindAt, rowFrom, NumbersKeepTheKind, numberOfFault, faultOf, FaultsKeepTheNumber}
 
 pub named : (k : Kind) → kindAt (numberOf k) ≡ k
 named address = refl
@@ -38,6 +38,14 @@ no-row (some k) n e z = absurd (numbered k (sym e ∙ z))
 pub row : (o : Option Kind) (n : ℕ) → n ≡ kindNumber o → (n ≡ 0 → ⊥) → o ≡ some (kindAt n)
 row none n e z = absurd (z e)
 row (some k) n e z = rw (e, named k)
+
+pub numbers-keep-the-kind : NumbersKeepTheKind
+numbers-keep-the-kind none = refl
+numbers-keep-the-kind (some k) = go (numberOf k) refl
+  where
+    go : (n : ℕ) → numberOf k ≡ n → rowFrom n ≡ some k
+    go zero e = absurd (numbered k e)
+    go (suc n) e = ap some (ap kindAt (sym e) ∙ named k)
 
 -- n is none of the k numbers from a on, as the last arm of a `match` has it
 abbrev pub Outside : ℕ → ℕ → ℕ → Type 0
@@ -117,3 +125,20 @@ kept-by false b v e = absurd (omega arith)
 pub fault-kept : (c : ℕ) (k : Kind) (d : List ℕ) → kindOf c ≡ some k → faultOf c d ≡ 0 → kinds .value c d ≡ meaning k d
 unfolding faultOf judged
 fault-kept c k d o e = rw o (kept-by (lengthFits k c (length d)) (valueFits k c d) (meaning k d) (rw o at e))
+
+-- data are broken by 8 or 9
+breaks : (a b : Bool) (v : Value) (n : ℕ) → isBroken v ≡ false → cond a (cond b v (broken 9)) (broken 8) ≡ broken n → 1 ≤ n
+breaks true true (broken m) n u e = absurd (let z : _≡_ {A = ℕ} 0 1 = cc in omega arith)
+breaks true true (number k x) n u e = absurd (let z : _≡_ {A = ℕ} 0 1 = cc in omega arith)
+breaks true true (part k x) n u e = absurd (let z : _≡_ {A = ℕ} 0 1 = cc in omega arith)
+breaks true false v n u e = let z : 9 ≡ n = cc in omega arith
+breaks false b v n u e = let z : 8 ≡ n = cc in omega arith
+
+broken-number : (o : Option Kind) (c : ℕ) (d : List ℕ) (n : ℕ) → judgedBy o c d ≡ broken n → 1 ≤ n
+unfolding judged
+broken-number none c d n e = absurd (let z : _≡_ {A = ℕ} 0 1 = cc in omega arith)
+broken-number (some k) c d n e = breaks (lengthFits k c (length d)) (valueFits k c d) (meaning k d) n (unbroken k d) e
+
+pub faults-keep-the-number : FaultsKeepTheNumber
+unfolding faultOf
+faults-keep-the-number c d n = (λ e. (broken-number (kindOf c) c d n e, ap numberOfFault e), λ h. fault-broken c d n (sym (h .1)) (λ z. omega (arith, h .0)))

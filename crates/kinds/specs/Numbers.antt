@@ -1,9 +1,11 @@
 -- THE KINDS AS NUMBERS: 1 to 11 in the order of document 01's table, 0 for a code without a row; and the number of a fault, 8 or 9, or 0 for none.
 -- Assumes nothing.
+use mathlib.Core.Path.{_≡_}
 use mathlib.Core.List.{List}
 use mathlib.Core.Bool.{cond}
+use mathlib.Core.Logic.{_↔_}
 use mathlib.Core.Option.{Option, none, some}
-use Prim.Native.Nat.{ℕ}
+use Prim.Native.Nat.{ℕ, zero, suc, _≤_}
 use lib.Dec.{eqb}
 use Rattle.options.specs.Kinds.{Kind, address, addresses, pairs, flag, octet, number16, numbers16, unsigned32, signed32, text, opaque, Value, broken, number, part, kinds}
 
@@ -38,6 +40,15 @@ kindAt n =
     (cond (eqb n 9) signed32
     (cond (eqb n 10) text opaque)))))))))
 
+-- the row that a number stands for, or none
+abbrev pub rowFrom : ℕ → Option Kind
+rowFrom zero = none
+rowFrom (suc n) = some (kindAt (suc n))
+
+-- a number loses nothing of the row
+abbrev pub NumbersKeepTheKind : Type 0
+NumbersKeepTheKind = (o : Option Kind) → rowFrom (kindNumber o) ≡ o
+
 abbrev pub numberOfFault : Value → ℕ
 numberOfFault (broken n) = n
 numberOfFault (number k z) = 0
@@ -46,3 +57,7 @@ numberOfFault (part k n) = 0
 -- "8: length breaks the kind. 9: value breaks the kind": how the data d breaks the row of the code c, or 0
 unfoldable pub faultOf : ℕ → List ℕ → ℕ
 faultOf c d = numberOfFault (kinds .value c d)
+
+-- a fault's number tells how the data break the row; 0 tells that they don't
+abbrev pub FaultsKeepTheNumber : Type 0
+FaultsKeepTheNumber = (c : ℕ) (d : List ℕ) (n : ℕ) → kinds .value c d ≡ broken n ↔ ((1 ≤ n) × (faultOf c d ≡ n))

@@ -1,11 +1,10 @@
-// The kinds of options (document 01, The kinds, by code): the kind of a code, the rules of length and of value, the numbers in the data.
+// The kinds of options (document 01, The kinds, by code): the kind of a code, the rules of length and of value.
 ghost use mathlib.Core.Path.{_≡_};
 ghost use mathlib.Core.List.{[], _∷_};
 ghost use Prim.Native.Nat.{_<_};
 ghost use lib.Dec.{leb};
-ghost use lib.ListN.{getD};
 ghost use Rattle.options.specs.Reading.{among};
-ghost use Rattle.options.specs.Kinds.{kindOf, both, multiples, isLength, lengthFits, pair16, word32, first16, first32, twosComplement, addressesOf, numbersOf, octetFits, number16Fits, rising, noZeroFirst, valueFits, trimmed};
+ghost use Rattle.options.specs.Kinds.{kindOf, both, multiples, isLength, lengthFits, addressesOf, numbersOf, octetFits, number16Fits, rising, noZeroFirst, valueFits, trimmed};
 ghost use Rattle.kinds.specs.Numbers.{kindNumber, kindAt, faultOf};
 
 // The kinds as numbers (document 01, The kinds): its rows in their order, and 0 for a code that has none.
@@ -57,53 +56,6 @@ pub fn kind(c: u8) -> u8
         43 | 47 | 55 | 60 => OPAQUE,
         61 => OPAQUE,
         _ => NO_ROW,
-    }
-}
-
-// The byte at i, or 0 past the end: what a number in data is made of (document 01, The kinds).
-pub fn byte(m: &[u8], i: usize) -> u8
-    ensures { λ r. ⌜ r ≡ getD (now (m .entry)) i 0 ⌝ }
-{
-    if i < m.len() { m[i] } else { 0 }
-}
-
-// A 16-bit number, the high byte first (document 01, The message and its fields).
-pub fn be16(a: u8, b: u8) -> u16
-    ensures { λ r. ⌜ r ≡ pair16 a b ⌝ }
-{
-    (a as u16) * 256 + (b as u16)
-}
-
-// A 32-bit number, the high byte first (document 01, The message and its fields).
-pub fn be32(a: u8, b: u8, c: u8, d: u8) -> u32
-    ensures { λ r. ⌜ r ≡ word32 a b c d ⌝ }
-{
-    (a as u32) * 16777216 + (b as u32) * 65536 + (c as u32) * 256 + (d as u32)
-}
-
-// The 16-bit number that d begins with (document 01, The kinds); bytes that are missing count as 0.
-pub fn first16(d: &[u8]) -> u16
-    ensures { λ r. ⌜ r ≡ first16 (now (d .entry)) ⌝ }
-{
-    be16(byte(d, 0), byte(d, 1))
-}
-
-// The 32-bit number that d begins with (document 01, The kinds); bytes that are missing count as 0.
-pub fn first32(d: &[u8]) -> u32
-    ensures { λ r. ⌜ r ≡ first32 (now (d .entry)) ⌝ }
-{
-    be32(byte(d, 0), byte(d, 1), byte(d, 2), byte(d, 3))
-}
-
-// The number whose two's complement is w (document 01, The kinds: signed 32-bit). No step leaves the range of i32.
-pub fn signed(w: u32) -> i32
-    ensures { λ r. ⌜ r ≡ twosComplement w ⌝ }
-{
-    if w < 2147483648 {
-        w as i32
-    } else {
-        let k = (4294967295 - w) as i32;
-        -1 - k
     }
 }
 
@@ -191,9 +143,9 @@ fn value_fits(k: u8, c: u8, d: &[u8]) -> bool
             }
             true
         }
-        FLAG => byte(d, 0) <= 1,
-        OCTET => octet_fits(c, byte(d, 0)),
-        NUMBER16 => number_fits(c, first16(d)),
+        FLAG => num::byte(d, 0) <= 1,
+        OCTET => octet_fits(c, num::byte(d, 0)),
+        NUMBER16 => number_fits(c, num::first16(d)),
         NUMBERS16 => never_falling(d),
         _ => true,
     }
@@ -251,7 +203,7 @@ fn never_falling(d: &[u8]) -> bool
     let mut least: u16 = 68;
     let mut i: usize = 0;
     while 2 <= d.len() - i {
-        let v = be16(d[i], d[i + 1]);
+        let v = num::be16(d[i], d[i + 1]);
         if v < least {
             return false;
         }
@@ -267,7 +219,7 @@ fn destinations_fit(d: &[u8]) -> bool
 {
     let mut i: usize = 0;
     while 4 <= d.len() - i {
-        if be32(d[i], d[i + 1], d[i + 2], d[i + 3]) == 0 {
+        if num::be32(d[i], d[i + 1], d[i + 2], d[i + 3]) == 0 {
             return false;
         }
         if d.len() - i < 8 {

@@ -21,7 +21,7 @@ use Rattle.theorems.proofs.Reading.{listed-stands, listed-bytes, find-some}
 use Rattle.wire.specs.declared.Walked as flat
 use Rattle.message.specs.Scan.{startOf, scanOf}
 use Rattle.message.proofs.Split.{ScanAccepted, passed, scan-reads, scan-refused, scan-accepted}
-use Rattle.lookup.specs.Shown.{dataAt, Within, answerAt, meantAt, foundIn, clipped, extentIn}
+use Rattle.lookup.specs.Found.{dataAt, Within, answerAt, meantAt, foundIn, clipped, extentIn}
 
 -- what a kind makes of its data is a number or a part
 shown-meant : (k : Kind) (d : List ℕ) (s : ℕ) → meantAt (meaning k d) s ≡ answerAt s (meaning k d)

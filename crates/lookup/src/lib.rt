@@ -7,7 +7,8 @@ ghost use Rattle.message.specs.Part.{partAt};
 ghost use Rattle.options.specs.Kinds.{kinds};
 ghost use Rattle.options.specs.CodeSet.{marked};
 ghost use Rattle.options.specs.Answers.{lookup, bytesOf, dataOf, textIn, textOf};
-ghost use Rattle.lookup.specs.Shown.{answerOf, valueOf, Within, foundIn, extentOf, extentIn, clipped};
+ghost use Rattle.lookup.specs.Shown.{answerOf, extentOf};
+ghost use Rattle.lookup.specs.Found.{valueOf, Within, foundIn, extentIn, clipped};
 use wire::Walked;
 
 // The answer to a lookup; a broken option is the lookup's refusal, with 8 or 9.
@@ -39,7 +40,7 @@ fn value(k: u8, d: &[u8], start: usize) -> Answer
     ensures { λ r. ⌜ answerOf r ≡ valueOf k (now (d .entry)) start ⌝ }
 {
     match k {
-        kinds::ADDRESS => Answer::Address(kinds::first32(d)),
+        kinds::ADDRESS => Answer::Address(num::first32(d)),
         kinds::ADDRESSES => Answer::Addresses {
             start,
             len: d.len(),
@@ -48,15 +49,15 @@ fn value(k: u8, d: &[u8], start: usize) -> Answer
             start,
             len: d.len(),
         },
-        kinds::FLAG => Answer::Flag(kinds::byte(d, 0)),
-        kinds::OCTET => Answer::Octet(kinds::byte(d, 0)),
-        kinds::NUMBER16 => Answer::Number16(kinds::first16(d)),
+        kinds::FLAG => Answer::Flag(num::byte(d, 0)),
+        kinds::OCTET => Answer::Octet(num::byte(d, 0)),
+        kinds::NUMBER16 => Answer::Number16(num::first16(d)),
         kinds::NUMBERS16 => Answer::Numbers16 {
             start,
             len: d.len(),
         },
-        kinds::UNSIGNED32 => Answer::Unsigned32(kinds::first32(d)),
-        kinds::SIGNED32 => Answer::Signed32(kinds::signed(kinds::first32(d))),
+        kinds::UNSIGNED32 => Answer::Unsigned32(num::first32(d)),
+        kinds::SIGNED32 => Answer::Signed32(num::signed(num::first32(d))),
         kinds::TEXT => Answer::Text {
             start,
             len: kinds::text_len(d),

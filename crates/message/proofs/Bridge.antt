@@ -20,8 +20,8 @@ use Rattle.wire.specs.Walk.{withEnds, stop, sizeOf, startAfter, overWrong, over
 use Rattle.wire.specs.Walk.{State}
 use Rattle.wire.specs.Walk.{Walk}
 use Rattle.wire.specs.declared.Walked as flat
-use Rattle.message.specs.Scan.{Fields}
-use Rattle.message.specs.Scan.{usedBy, stopAt, joined, walkIf, lastField, furtherFields, fieldsOf}
+use Rattle.message.specs.Scan.{usedBy, stopAt}
+use Rattle.message.specs.Walking.{Fields, onTop, walkIf, lastField, furtherFields, fieldsOf}
 use Rattle.message.proofs.Laws.{later}
 
 -- ---- codes are bytes, and neither 0 nor 255
@@ -271,15 +271,15 @@ Keeps want v (refused n q) r w = Refused n q r
 Keeps want v (accepted os) r w = Kept want v os r w
 
 -- a refusal of the field is the message's
-joined-fault : (fd : Field) (w : Walk) (n q : ℕ) (a : flat.Walked) → Stops fd w n q → Refused n q (joined (start fd) (walkedOf w) a)
-joined-fault fd w n q a s =
+on-top-fault : (fd : Field) (w : Walk) (n q : ℕ) (a : flat.Walked) → Stops fd w n q → Refused n q (onTop (start fd) (walkedOf w) a)
+on-top-fault fd w n q a s =
     record { is = rw (ne-eqb (w .number) 0 (λ z. s .fault (sym (s .number) ∙ z)), s .number, s .place) refl; fault = s .fault }
 
 -- the first field
 first-keeps : (want : ℕ) (f w : List ℕ) (r : Reading) → withEnds w ≡ withEnds noCodes → Walked-as options want noCodes (begin w) [] (parse 0 0 f) r
-    → Keeps want (overloadOf r) r (joined 240 (walkedOf (walkField true want w f)) (stopAt 0 0)) (walkField true want w f .state .seen)
+    → Keeps want (overloadOf r) r (onTop 240 (walkedOf (walkField true want w f)) (stopAt 0 0)) (walkField true want w f .state .seen)
 unfolding walkField items seenAfter wordsOf lastStart overload
-first-keeps want f w (refused n q) e h = joined-fault options (walkOf true want (begin w) (parse 0 0 f)) n q (stopAt 0 0) h
+first-keeps want f w (refused n q) e h = on-top-fault options (walkOf true want (begin w) (parse 0 0 f)) n q (stopAt 0 0) h
 first-keeps want f w (accepted os) e h =
     let k : State = keptAll want (begin w) os in
     record {
@@ -295,9 +295,9 @@ module _ (fd : Field) (want v : ℕ) (m : List ℕ) (b : AllBytes m) (o : isOpti
   -- one more field
   more-keeps : (os : List Opt) (r : Reading) (a : flat.Walked) (w : List ℕ) → Kept want v os a w
       → Walked-as fd want (wordsOf noCodes (items os)) (begin w) (seenAfter [] (items os)) (parse 0 0 (bytes fd m)) r
-      → Keeps want v (join os r) (joined (start fd) (walkedOf (walkField false want w (bytes fd m))) a) (walkField false want w (bytes fd m) .state .seen)
+      → Keeps want v (join os r) (onTop (start fd) (walkedOf (walkField false want w (bytes fd m))) a) (walkField false want w (bytes fd m) .state .seen)
   unfolding walkField
-  more-keeps os (refused n q) a w k h = joined-fault fd (walkOf false want (begin w) (parse 0 0 (bytes fd m))) n q a (rw o at h)
+  more-keeps os (refused n q) a w k h = on-top-fault fd (walkOf false want (begin w) (parse 0 0 (bytes fd m))) n q a (rw o at h)
   more-keeps os (accepted ps) a w k h =
       let s : State = keptAll want (begin w) ps in
       let i : walkOf false want (begin w) (parse 0 0 (bytes fd m)) ≡ stop s 0 0 = rw (← o) (h .is) in
@@ -310,7 +310,7 @@ module _ (fd : Field) (want v : ℕ) (m : List ℕ) (b : AllBytes m) (o : isOpti
       }
 
   keeps-more : (on : Bool) (r : Reading) (a : flat.Walked) (w : List ℕ) → Keeps want v r a w → a .number ≡ 0
-      → Keeps want v (extend on fd m r) (joined (start fd) (walkedOf (walkIf on want w (bytes fd m))) a) (walkIf on want w (bytes fd m) .state .seen)
+      → Keeps want v (extend on fd m r) (onTop (start fd) (walkedOf (walkIf on want w (bytes fd m))) a) (walkIf on want w (bytes fd m) .state .seen)
   keeps-more on (refused n q) a w k z = absurd (k .fault (sym (ap (λ (x : flat.Walked). x .number) (k .is)) ∙ z))
   keeps-more false (accepted os) a w k z =
       let u : usedBy (items os) + 0 ≡ usedBy (items os) = omega arith in
@@ -348,7 +348,7 @@ module _ (want : ℕ) (m : List ℕ) (b : AllBytes m) where
   v = overloadOf (firstField m)
 
   first-is : (w : List ℕ) → withEnds w ≡ withEnds noCodes
-      → Keeps want v (firstField m) (joined 240 (walkedOf (walkField true want w (drop 240 m))) (stopAt 0 0)) (walkField true want w (drop 240 m) .state .seen)
+      → Keeps want v (firstField m) (onTop 240 (walkedOf (walkField true want w (drop 240 m))) (stopAt 0 0)) (walkField true want w (drop 240 m) .state .seen)
   unfolding firstField
   first-is w e = go (judge options [] (parse 0 0 (drop 240 m))) refl
     where
@@ -356,7 +356,7 @@ module _ (want : ℕ) (m : List ℕ) (b : AllBytes m) where
       all = walk-judged options want noCodes (begin w) [] (parse 0 0 (drop 240 m)) e marks-none (parse-codes 0 0 (drop 240 m) (all-field options m b))
 
       go : (r : Reading) → judge options [] (parse 0 0 (drop 240 m)) ≡ r
-          → Keeps want (overloadOf (join [] r)) (join [] r) (joined 240 (walkedOf (walkField true want w (drop 240 m))) (stopAt 0 0)) (walkField true want w (drop 240 m) .state .seen)
+          → Keeps want (overloadOf (join [] r)) (join [] r) (onTop 240 (walkedOf (walkField true want w (drop 240 m))) (stopAt 0 0)) (walkField true want w (drop 240 m) .state .seen)
       go (refused n q) z = first-keeps want (drop 240 m) w (refused n q) e (subst (λ (r : Reading). Walked-as options want noCodes (begin w) [] (parse 0 0 (drop 240 m)) r) z all)
       go (accepted os) z = first-keeps want (drop 240 m) w (accepted os) e (subst (λ (r : Reading). Walked-as options want noCodes (begin w) [] (parse 0 0 (drop 240 m)) r) z all)
 
@@ -373,16 +373,16 @@ module _ (want : ℕ) (m : List ℕ) (b : AllBytes m) where
       go : (t : Bool) → eqb x 0 ≡ t → Keeps want x (extend (snameIn x) sname m (extend (fileIn x) file m r)) (furtherFields want m a w .kept) (furtherFields want m a w .seen)
       go true q = let z : x ≡ 0 = eqb-true x 0 q in rw (eq-eqb (a .over) 0 (p ∙ z), z) (rw z at k)
       go false q =
-          let after : ℕ → Fields = λ (y : ℕ). lastField want m y (joined 108 (walkedOf (walkIf (fileIn y) want w (bytes file m))) a) (walkIf (fileIn y) want w (bytes file m) .state .seen) in
+          let after : ℕ → Fields = λ (y : ℕ). lastField want m y (onTop 108 (walkedOf (walkIf (fileIn y) want w (bytes file m))) a) (walkIf (fileIn y) want w (bytes file m) .state .seen) in
           let e : furtherFields want m a w ≡ after x =
           later (eqb (a .over) 0) (record { kept = a; seen = w }) (after (a .over)) (ap (λ (y : ℕ). eqb y 0) p ∙ q) ∙ ap after p in
           subst (λ (f : Fields). Keeps want x (extend (snameIn x) sname m (extend (fileIn x) file m r)) (f .kept) (f .seen)) (sym e)
-          (last-keeps x (extend (fileIn x) file m r) (joined 108 (walkedOf (walkIf (fileIn x) want w (bytes file m))) a) (walkIf (fileIn x) want w (bytes file m) .state .seen) q
+          (last-keeps x (extend (fileIn x) file m r) (onTop 108 (walkedOf (walkIf (fileIn x) want w (bytes file m))) a) (walkIf (fileIn x) want w (bytes file m) .state .seen) q
           (keeps-more file want x m b refl q (fileIn x) r a w k (no-fault x r a w q p k)))
 
   pub fields-keep : (w : List ℕ) → withEnds w ≡ withEnds noCodes → Keeps want v (allFields m) (fieldsOf want m w .kept) (fieldsOf want m w .seen)
   unfolding allFields firstField fieldsOf items seenAfter
   fields-keep w e =
       let o : Walk = walkField true want w (drop 240 m) in
-      let a : flat.Walked = joined 240 (walkedOf o) (stopAt 0 0) in
+      let a : flat.Walked = onTop 240 (walkedOf o) (stopAt 0 0) in
       further-keeps v (firstField m) a (o .state .seen) refl (keeps-over want v (firstField m) a (o .state .seen) refl (first-is w e)) (first-is w e)

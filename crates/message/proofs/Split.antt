@@ -20,8 +20,9 @@ use Rattle.theorems.proofs.CodesPresent.{marks-of, seen-length, no-code-twice, 
 use Rattle.theorems.proofs.Reading.{listed-stands}
 use Rattle.wire.specs.Walk.{withEnds}
 use Rattle.wire.specs.declared.Walked as flat
-use Rattle.message.specs.Scan.{startOf, usedBy, stopAt, scanIn, scanOf, unfitOf, fieldsOf, Scans, Gives}
-use Rattle.message.specs.Fields.{optionsIn, onlyIf, fieldOptions, activeOptions}
+use Rattle.message.specs.Scan.{startOf, usedBy, stopAt, scanIn, scanOf, Scans}
+use Rattle.message.specs.Walking.{unfitOf, fieldsOf, Gives}
+use Rattle.message.specs.Active.{optionsIn, fieldFrom, optionsFrom, activeOptions}
 use Rattle.message.proofs.Bridge.{lastStart, keptOf, Kept, Keeps, firstField, fields-keep}
 
 clash {ℓ} : {X : Type ℓ} → _≡_ {A = ℕ} 0 1 → X
@@ -52,8 +53,7 @@ join-is os (refused n p) ps qs h e = clash (cc)
 join-is os (accepted rs) ps qs h e = let q : rs ≡ ps = h rs refl in cc
 
 extend-is : (on : Bool) (fd : Field) (m : List ℕ) (w : Reading) (qs : List Opt) → extend on fd m w ≡ accepted qs
-    → (os : List Opt) × (w ≡ accepted os) × (qs ≡ os ++ onlyIf on (fieldOptions fd (bytes fd m)))
-unfolding fieldOptions
+    → (os : List Opt) × (w ≡ accepted os) × (qs ≡ os ++ cond on (optionsIn fd (parse 0 0 (bytes fd m))) [])
 extend-is false fd m w qs e = (qs, e, sym (append-nil qs))
 extend-is true fd m (refused n p) qs e = clash (cc)
 extend-is true fd m (accepted os) qs e = (
@@ -63,17 +63,17 @@ extend-is true fd m (accepted os) qs e = (
 )
 
 fields-split : (m : List ℕ) (os : List Opt) → allFields m ≡ accepted os → os ≡ activeOptions (overloadOf (firstField m)) m
-unfolding allFields firstField activeOptions items seenAfter
+unfolding allFields firstField optionsFrom fieldFrom items seenAfter
 fields-split m os e =
     let v : ℕ = overloadOf (firstField m) in
     let s = extend-is (snameIn v) sname m (extend (fileIn v) file m (firstField m)) os e in
     let f = extend-is (fileIn v) file m (firstField m) (s .0) (s .1) in
     let o = extend-is true options m (accepted []) (f .0) (f .1) in
     let n : o .0 ≡ [] = unwrap (o .0) (o .1) in
-    s .2 ∙ ap (λ (l : List Opt). l ++ onlyIf (snameIn v) (fieldOptions sname (bytes sname m))) (f .2)
-    ∙ append-assoc (f .0) (onlyIf (fileIn v) (fieldOptions file (bytes file m))) (onlyIf (snameIn v) (fieldOptions sname (bytes sname m)))
-    ∙ ap (λ (l : List Opt). l ++ (onlyIf (fileIn v) (fieldOptions file (bytes file m)) ++ onlyIf (snameIn v) (fieldOptions sname (bytes sname m))))
-    (o .2 ∙ ap (λ (l : List Opt). l ++ fieldOptions options (bytes options m)) n)
+    s .2 ∙ ap (λ (l : List Opt). l ++ fieldFrom v m sname 0) (f .2)
+    ∙ append-assoc (f .0) (fieldFrom v m file 0) (fieldFrom v m sname 0)
+    ∙ ap (λ (l : List Opt). l ++ (fieldFrom v m file 0 ++ fieldFrom v m sname 0))
+    (o .2 ∙ ap (λ (l : List Opt). l ++ fieldFrom v m options 0) n)
   where
     unwrap : (qs : List Opt) → accepted [] ≡ accepted qs → qs ≡ []
     unwrap qs z = cc
@@ -319,6 +319,10 @@ over-all m os b e = go (allFields m) refl (fields-keep 0 m b begun refl)
         let q : os ≡ qs = cc in
         ap (λ (l : List Opt). overload (items l)) q ∙ k .over
 
+-- THE OPTIONS OF AN ACCEPTED MESSAGE are all that are found in its active fields
+pub options-all : (m : List ℕ) (os : List Opt) → AllBytes m → readMessage m ≡ accepted os → os ≡ activeOptions (overload (items os)) m
+options-all m os b e = fields-split m os (passed m os e .fields) ∙ ap (λ (v : ℕ). activeOptions v m) (sym (over-all m os b e))
+
 pub scan-accepted : (want : ℕ) (m : List ℕ) (r : flat.Walked) → AllBytes m → r ≡ scanOf want m → r .number ≡ 0 → (os : List Opt) × ScanAccepted want m r os
 scan-accepted want m r b h y = go (readMessage m) refl
   where
@@ -326,8 +330,8 @@ scan-accepted want m r b h y = go (readMessage m) refl
     go (refused n p) z = absurd (refused-number m n p b z (sym (ap (λ (x : flat.Walked). x .number) (h ∙ scan-reads want m (refused n p) z)) ∙ y))
     go (accepted os) z =
         let i : r ≡ scanIn want (accepted os) = h ∙ scan-reads want m (accepted os) z in
-        let o : r .over ≡ overloadOf (firstField m) = ap (λ (x : flat.Walked). x .over) i ∙ over-all m os b z in
-        (os, record { reads = z; is = i; options-are = fields-split m os (passed m os z .fields) ∙ ap (λ (v : ℕ). activeOptions v m) (sym o) })
+        let o : r .over ≡ overload (items os) = ap (λ (x : flat.Walked). x .over) i in
+        (os, record { reads = z; is = i; options-are = options-all m os b z ∙ ap (λ (v : ℕ). activeOptions v m) (sym o) })
 
 -- the set of codes has as many codes as the message has options
 pub seen-count : (m : List ℕ) (os : List Opt) → readMessage m ≡ accepted os → AllBytes m → countOf (present m .words) ≡ length (items os)

@@ -1,3 +1,7 @@
-pub mod Scan
+-- What the public contracts rest on
 pub mod Fields
 pub mod Part
+pub mod Active
+pub mod Scan
+-- Internals
+pub mod Walking

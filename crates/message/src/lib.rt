@@ -4,11 +4,13 @@ ghost use mathlib.Core.Bool.{cond};
 ghost use Prim.Native.Nat.{_+_, _≤_};
 ghost use lib.Dec.{eqb};
 ghost use lib.ListN.{length, take, drop};
-ghost use Rattle.options.specs.Message.{start, cookie};
+ghost use Rattle.options.specs.Message.{start, bytes, cookie};
 ghost use Rattle.options.specs.Reading.{same, fileIn, snameIn};
 ghost use Rattle.message.specs.Fields.{fieldOf};
+ghost use Rattle.message.specs.Active.{activeIn};
 ghost use Rattle.message.specs.Part.{partAt};
-ghost use Rattle.message.specs.Scan.{stopAt, scanOf, Scans, unfitOf, either0, joined, walkIf, fieldsOf, Goes, Gives};
+ghost use Rattle.message.specs.Scan.{stopAt, scanOf, Scans};
+ghost use Rattle.message.specs.Walking.{unfitOf, firstOf, onTop, walkIf, fieldsOf, Goes, Gives};
 use wire::Walked;
 
 pub enum Field {
@@ -25,6 +27,28 @@ pub fn base(field: Field) -> usize
         Field::Options => 240,
         Field::File => 108,
         Field::Sname => 44,
+    }
+}
+
+// Whether a field is active, by the value of option 52, or 0 where there is none.
+pub fn active(over: u32, field: Field) -> bool
+    ensures { λ r. ⌜ r ≡ activeIn over (fieldOf field) ⌝ }
+{
+    match field {
+        Field::Options => true,
+        Field::File => file_on(over),
+        Field::Sname => sname_on(over),
+    }
+}
+
+// The bytes of a field, or those of them that there are.
+pub fn field_bytes(m: &[u8], field: Field) -> &[u8]
+    ensures { λ r. ⌜ now r ≡ bytes (fieldOf field) (now (m .entry)) ⌝ }
+{
+    match field {
+        Field::Options => part(m, 240, m.len()),
+        Field::File => part(m, 108, 128),
+        Field::Sname => part(m, 44, 64),
     }
 }
 
@@ -90,15 +114,15 @@ fn stop(number: u32, place: usize) -> Walked
 
 // The first value that is not 0.
 fn first_of(a: u32, b: u32) -> u32
-    ensures { λ r. ⌜ r ≡ either0 a b ⌝ }
+    ensures { λ r. ⌜ r ≡ firstOf a b ⌝ }
 {
     if a == 0 { b } else { a }
 }
 
 // The walk of one more field, whose first byte is at base, on top of the fields before.
-fn join(base: usize, w: Walked, a: Walked) -> Walked
+fn on_top(base: usize, w: Walked, a: Walked) -> Walked
     requires { ⌜ (base ≤ 240) × (w .start ≤ 65536) × (w .used ≤ 65536) × (w .place ≤ 65536) × (a .used ≤ 262144) ⌝ }
-    ensures { λ r. ⌜ r ≡ joined base w a ⌝ }
+    ensures { λ r. ⌜ r ≡ onTop base w a ⌝ }
 {
     if w.number != 0 {
         return stop(w.number, base + w.place);
@@ -165,16 +189,16 @@ fn fields(m: &[u8], want: u8, seen: &mut [u64; 4]) -> Walked
     requires { ⌜ (240 ≤ length (now m)) × (length (now m) ≤ 1472) ⌝ }
     ensures { λ r. ⌜ Gives (fieldsOf want (now (m .entry)) (now (seen .entry))) r (now (seen .exit)) ⌝ }
 {
-    let a = join(240, wire::walk(true, &m[240..], want, seen), stop(0, 0));
+    let a = on_top(240, wire::walk(true, &m[240..], want, seen), stop(0, 0));
     let v = a.over;
     if v == 0 {
         return a;
     }
-    let b = join(108, walk_if(file_on(v), &m[108..236], want, seen), a);
+    let b = on_top(108, walk_if(file_on(v), &m[108..236], want, seen), a);
     if b.number != 0 {
         return b;
     }
-    join(44, walk_if(sname_on(v), &m[44..108], want, seen), b)
+    on_top(44, walk_if(sname_on(v), &m[44..108], want, seen), b)
 }
 
 // Walks the message once: what is kept of its options, the code wanted among them, or the refusal. The lent set becomes that of its codes; a refusal

@@ -3,7 +3,7 @@ ghost use mathlib.Core.Path.{_≡_};
 ghost use mathlib.Core.Bool.{cond};
 ghost use lib.Dec.{ltb};
 ghost use lib.ListN.{length};
-ghost use Prim.Native.Nat.{_-_, _≤_, _<_};
+ghost use Prim.Native.Nat.{_-_, _≤_};
 ghost use Rattle.options.specs.SheetWalk.{recordsLeft, Whole};
 ghost use Rattle.plan.specs.Answer.{Answers};
 ghost use Rattle.plan.specs.Steps.{sizes, RestOf, overloading, firstFit, Tries};
@@ -18,12 +18,6 @@ pub enum Choice {
 pub struct Rest {
     pub place: usize,
     pub total: usize,
-}
-
-fn wide(x: u8) -> usize
-    ensures { λ r. ⌜ (r ≡ x) × (r < 256) ⌝ }
-{
-    x as usize
 }
 
 // The plan, where a field takes options of so many bytes and END; else 0.
@@ -42,7 +36,7 @@ fn rest_after(room: usize, s: &[u8], from: usize, total: usize) -> Rest
     let mut place = from;
     let mut left = room;
     while place < s.len() {
-        let size = wide(s[place + 2]) + 2;
+        let size = num::wide(s[place + 2]) + 2;
         if left <= size {
             break;
         }

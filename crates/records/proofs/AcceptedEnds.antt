@@ -9,7 +9,7 @@ use Rattle.options.specs.KindClaims.{AllBytes}
 use Rattle.theorems.proofs.View.{clash}
 use Rattle.message.proofs.Bridge.{firstField}
 use Rattle.message.proofs.Split.{passed, over-all}
-use Rattle.records.specs.Fill.{hasEnd, fieldEnds, ActiveEnds}
+use Rattle.records.specs.FieldRecords.{hasEnd, fieldEnds, ActiveEnds}
 
 -- ---- one field
 

@@ -7,31 +7,20 @@ use native.Mathlib.Omega.{arith}
 use lib.ListN.{length, getD, take, drop, length-append}
 use Rattle.wire.specs.Walk.{itemAt}
 use Rattle.wire.proofs.Laws.{rest, rest-pad, rest-end, body-length}
-use Rattle.records.specs.Fill.{laid, Placed, optionRecord, hasEnd, fieldEnds, itemsIn, bytesIn, fieldBytes}
-use Rattle.records.proofs.Buffers.{laid-nil, laid-next}
+use Rattle.records.specs.FieldRecords.{optionRecord, hasEnd, fieldEnds, itemsIn, bytesIn, fieldBytes}
+use Rattle.buffer.specs.Written.{Written}
+use Rattle.buffer.proofs.Writing.{written-none, written-more}
 use Rattle.records.proofs.Rooms.{option-record}
 use Rattle.records.proofs.Within.{inside, pad-ends, option-within, option-found, option-ends}
 
-pub placed-nil : (old : List ℕ) (at : ℕ) → Placed old at [] at old
-placed-nil old at = record { next = omega arith; buffer = sym (laid-nil old at) }
-
--- what is placed after what was placed is placed with it
-placed-next : {old middle last : List ℕ} {at k r : ℕ} (xs ys : List ℕ) → at + length xs + length ys ≤ length old → Placed old at xs k middle → Placed middle k ys r last
-    → Placed old at (xs ++ ys) r last
-placed-next {old} {middle} {last} {at} {k} {r} xs ys h a b =
-    record {
-      next = omega (arith, a .next, b .next, length-append xs ys);
-      buffer = b .buffer ∙ ap (λ (x : List ℕ). laid x k ys) (a .buffer) ∙ laid-next old at k xs ys (a .next) h;
-    }
-
 -- ---- one field
 
--- From offset i on the field has its END. With the records from there on placed at o in the buffer `now`, all of the field's are placed at `at` in `old`.
+-- From offset i on the field has its END. With the records from there on written at o in the buffer `now`, all of the field's are written at `at` in `old`.
 pub record Laying (f old : List ℕ) (at : ℕ) (now : List ℕ) (o i : ℕ) : Type 0 where
   pub ends : hasEnd (rest f i) ≡ true
   pub room : o + length (bytesIn (rest f i)) ≤ length now
   pub same : length now ≡ length old
-  pub whole : (r : ℕ) (last : List ℕ) → Placed now o (bytesIn (rest f i)) r last → Placed old at (fieldBytes true f) r last
+  pub whole : (r : ℕ) (last : List ℕ) → Written now o (bytesIn (rest f i)) r last → Written old at (fieldBytes true f) r last
 
 pub laying-begins : (f old : List ℕ) (at : ℕ) → fieldEnds true f ≡ true → at + length (fieldBytes true f) ≤ length old → Laying f old at old at 0
 unfolding fieldEnds fieldBytes
@@ -41,9 +30,9 @@ module _ {f old : List ℕ} {at : ℕ} {now : List ℕ} {o i : ℕ} (y : Laying 
   pub laying-in : i < length f
   laying-in = inside f i (y .ends)
 
-  pub laying-ends : getD f i 0 ≡ 255 → Placed old at (fieldBytes true f) o now
+  pub laying-ends : getD f i 0 ≡ 255 → Written old at (fieldBytes true f) o now
   unfolding bytesIn itemsIn
-  laying-ends e = y .whole o now (rw (rest-end f i laying-in e) (placed-nil now o))
+  laying-ends e = y .whole o now (rw (rest-end f i laying-in e) (written-none now o))
 
   pub laying-pad : getD f i 0 ≡ 0 → Laying f old at now o (i + 1)
   laying-pad z =
@@ -75,27 +64,21 @@ module _ {f old : List ℕ} {at : ℕ} {now : List ℕ} {o i : ℕ} (y : Laying 
       pub option-room : o + length (optionRecord (getD f i 0) part) + length (bytesIn (rest f (i + 2 + n))) ≤ length now
       option-room = omega (arith, y .room, ap length from-here, length-append (optionRecord (getD f i 0) part) (bytesIn (rest f (i + 2 + n))))
 
-      pub laying-on : {k : ℕ} {later : List ℕ} → length later ≡ length now → Placed now o (optionRecord (getD f i 0) part) k later → Laying f old at later k (i + 2 + n)
+      pub laying-on : {k : ℕ} {later : List ℕ} → length later ≡ length now → Written now o (optionRecord (getD f i 0) part) k later → Laying f old at later k (i + 2 + n)
       laying-on {k} {later} s p =
           record {
             ends = rw q (option-ends f i (y .ends) z e);
             room = omega (arith, option-room, p .next);
             same = s ∙ y .same;
-            whole = λ r last x. y .whole r last (rw from-here (placed-next (optionRecord (getD f i 0) part) (bytesIn (rest f (i + 2 + n))) option-room p x));
+            whole = λ r last x. y .whole r last (rw from-here (written-more p x));
           }
 
 -- ---- fields one after another
 
-pub placed-none : (on : Bool) (f old : List ℕ) (at : ℕ) → on ≡ false → Placed old at (fieldBytes on f) at old
+pub written-inactive : (on : Bool) (f old : List ℕ) (at : ℕ) → on ≡ false → Written old at (fieldBytes on f) at old
 unfolding fieldBytes
-placed-none on f old at e = rw e (placed-nil old at)
+written-inactive on f old at e = rw e (written-none old at)
 
 -- three parts, from the start of the buffer on
 pub parts-length : (us vs ws : List ℕ) → length (us ++ (vs ++ ws)) ≡ length us + length vs + length ws
 parts-length us vs ws = omega (arith, length-append us (vs ++ ws), length-append vs ws)
-
-pub placed-parts : {old x y z : List ℕ} {i j k : ℕ} (us vs ws : List ℕ) → length (us ++ (vs ++ ws)) ≤ length old → length x ≡ length old
-    → Placed old 0 us i x → Placed x i vs j y → Placed y j ws k z → Placed old 0 (us ++ (vs ++ ws)) k z
-placed-parts us vs ws h e a b c =
-    let n = parts-length us vs ws in
-    placed-next us (vs ++ ws) (omega (arith, n, length-append vs ws)) a (placed-next vs ws (omega (arith, n, a .next)) b c)

@@ -1,4 +1,3 @@
-pub mod Buffers
 pub mod Rooms
 pub mod Within
 pub mod Overload

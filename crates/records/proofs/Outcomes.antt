@@ -3,25 +3,40 @@ use mathlib.Core.Path.{_≡_, refl, sym, ap, _∙_}
 use mathlib.Core.Bool.{true, false}
 use mathlib.Core.List.{List}
 use Prim.Native.Nat.{ℕ, _+_, _≤_, _<_}
-use native.Mathlib.Nat.{zero-add}
 use native.Mathlib.Omega.{arith}
 use lib.Dec.{ltb}
 use lib.ListN.{length}
 use borrow.Author.Tests.{lt-ltb, le-ltb}
 use Rattle.options.specs.Message.{Opt}
 use Rattle.options.specs.Reading.{accepted, refused, items, overload, readMessage}
-use Rattle.options.specs.Answers.{recordBytes, but52, Filled, filledWith, records}
+use Rattle.options.specs.Answers.{recordBytes, but52, given, declined, Filled, filledWith, records}
+use Rattle.options.specs.Answers as answers
 use Rattle.theorems.proofs.CodesPresent.{no-code-twice}
 use Rattle.theorems.proofs.Sheets.{records-is}
 use Rattle.message.specs.Scan.{usedBy}
-use Rattle.message.specs.Fields.{activeOptions}
+use Rattle.message.specs.Active.{activeOptions}
 use Rattle.message.proofs.Split.{passed}
 use Rattle.options.specs.KindClaims.{AllBytes}
+use Rattle.buffer.specs.Written.{Written}
+use Rattle.buffer.proofs.Writing.{written-front}
+use Rattle.records.specs.declared.Given.{Given}
 use Rattle.records.specs.declared.Given.the-variants.{Bytes, Refused}
-use Rattle.records.specs.Fill.{Fills, Placed, ActiveEnds, activeBytes, room52}
+use Rattle.records.specs.Fill.{givenOf, codedGiven, AnswersComeBack, Fills}
+use Rattle.records.specs.FieldRecords.{ActiveEnds, activeBytes, room52}
 use Rattle.records.proofs.Rooms.{rooms52, room-is, active-bytes}
 use Rattle.records.proofs.Overload.{right-52, rooms-is}
 use Rattle.records.proofs.AcceptedEnds.{active-ends}
+
+answer-back : (g : Given) → codedGiven (givenOf g) ≡ g
+answer-back (Bytes n) = refl
+answer-back (Refused n p) = refl
+
+answer-there : (g : answers.Given) → givenOf (codedGiven g) ≡ g
+answer-there (given n) = refl
+answer-there (declined n p) = refl
+
+pub answers-come-back : AnswersComeBack
+answers-come-back = (answer-back, answer-there)
 
 pub fills-refused : (m old : List ℕ) (n p : ℕ) → readMessage m ≡ refused n p → Fills (records m old) (Refused n p) old
 fills-refused m old n p e =
@@ -62,7 +77,8 @@ module _ {m : List ℕ} {used count over : ℕ} (t : Told m used count over) whe
       let b : ltb (length old) (length (activeBytes over m)) ≡ true = lt-ltb (length old) (length (activeBytes over m)) (omega (arith, told-size)) in
       rw (is-filled, b) (record { answer = refl; buffer = refl })
 
-  pub fills-given : (old : List ℕ) {r : ℕ} {after : List ℕ} → used + count ≤ length old + room52 over → Placed old 0 (activeBytes over m) r after → Fills (records m old) (Bytes r) after
+  pub fills-given : (old : List ℕ) {r : ℕ} {after : List ℕ} → used + count ≤ length old + room52 over → Written old 0 (activeBytes over m) r after → Fills (records m old) (Bytes r) after
   fills-given old {r} {after} l p =
       let b : ltb (length old) (length (activeBytes over m)) ≡ false = le-ltb (length old) (length (activeBytes over m)) (omega (arith, told-size)) in
-      rw (is-filled, b) (record { answer = rw (p .next, zero-add); buffer = p .buffer ∙ rw zero-add })
+      let f = written-front p in
+      rw (is-filled, b) (record { answer = ap given (f .0); buffer = f .1 })

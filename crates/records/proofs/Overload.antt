@@ -15,7 +15,7 @@ use Rattle.options.specs.Refusals.{Wrong52, in-file, in-sname, length-not-1, va
 use Rattle.options.specs.ReadingClaims.{In, Precedes}
 use Rattle.theorems.proofs.Fields.{not-one}
 use Rattle.theorems.proofs.Reading.{no-row-of, listed-stands}
-use Rattle.records.specs.Fill.{room52}
+use Rattle.records.specs.FieldRecords.{room52}
 use Rattle.records.proofs.Rooms.{rooms52}
 
 -- one data byte, other than 0

@@ -10,7 +10,7 @@ use Rattle.options.specs.Reading.{Parse, ranOut, beyond, found}
 use Rattle.theorems.proofs.View.{clash}
 use Rattle.wire.specs.Walk.{itemAt}
 use Rattle.wire.proofs.Laws.{rest, rest-none, rest-pad, rest-last, rest-long, rest-found}
-use Rattle.records.specs.Fill.{hasEnd}
+use Rattle.records.specs.FieldRecords.{hasEnd}
 
 module _ (f : List ℕ) (i : ℕ) (h : hasEnd (rest f i) ≡ true) where
   -- another end is not met

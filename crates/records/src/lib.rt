@@ -5,7 +5,9 @@ ghost use Prim.Native.Nat.{_+_, _<_, _≤_, _^_};
 ghost use lib.Dec.{ltb};
 ghost use lib.ListN.{length};
 ghost use Rattle.options.specs.Answers as answers;
-ghost use Rattle.records.specs.Fill.{Fills, laid, Placed, shortRecord, optionRecord, fieldEnds, fieldBytes, ActiveEnds, activeBytes, room52};
+ghost use Rattle.buffer.specs.Written.{laid, Written};
+ghost use Rattle.records.specs.Fill.{Fills};
+ghost use Rattle.records.specs.FieldRecords.{shortRecord, optionRecord, fieldEnds, fieldBytes, ActiveEnds, activeBytes, room52};
 
 // What is given (document 01, What is asked of a message; Numbers given on refusal): how many bytes of the buffer the records take, or a refusal.
 pub enum Given {
@@ -36,7 +38,7 @@ fn put_record(out: &mut [u8], at: usize, code: u8, body: &[u8])
 // The same for an option that may be 52, which is no record. Gives the place after what is laid.
 fn put_option(out: &mut [u8], at: usize, code: u8, body: &[u8]) -> usize
     requires { ⌜ (at + length (optionRecord code (now body)) ≤ length (now out)) × (length (now body) < 256) ⌝ }
-    ensures { λ r. ⌜ Placed (now (out .entry)) at (optionRecord code (now (body .entry))) r (now (out .exit)) ⌝ }
+    ensures { λ r. ⌜ Written (now (out .entry)) at (optionRecord code (now (body .entry))) r (now (out .exit)) ⌝ }
 {
     if code == 52 {
         return at;
@@ -49,7 +51,7 @@ fn put_option(out: &mut [u8], at: usize, code: u8, body: &[u8]) -> usize
 // has found: so every item is within the field, and that is not tested again.
 fn put_field(f: &[u8], out: &mut [u8], at: usize) -> usize
     requires { ⌜ (fieldEnds true (now f) ≡ true) × (at + length (fieldBytes true (now f)) ≤ length (now out)) ⌝ }
-    ensures { λ r. ⌜ Placed (now (out .entry)) at (fieldBytes true (now (f .entry))) r (now (out .exit)) ⌝ }
+    ensures { λ r. ⌜ Written (now (out .entry)) at (fieldBytes true (now (f .entry))) r (now (out .exit)) ⌝ }
 {
     let mut o = at;
     let mut i: usize = 0;
@@ -72,7 +74,7 @@ fn put_field(f: &[u8], out: &mut [u8], at: usize) -> usize
 // The same for a field that may be inactive.
 fn put_if(on: bool, f: &[u8], out: &mut [u8], at: usize) -> usize
     requires { ⌜ (fieldEnds on (now f) ≡ true) × (at + length (fieldBytes on (now f)) ≤ length (now out)) ⌝ }
-    ensures { λ r. ⌜ Placed (now (out .entry)) at (fieldBytes on (now (f .entry))) r (now (out .exit)) ⌝ }
+    ensures { λ r. ⌜ Written (now (out .entry)) at (fieldBytes on (now (f .entry))) r (now (out .exit)) ⌝ }
 {
     if !on {
         return at;
@@ -83,7 +85,7 @@ fn put_if(on: bool, f: &[u8], out: &mut [u8], at: usize) -> usize
 // Lays the records of every active field over out from its start on, in reading order; v is the value of option 52.
 fn put_active(m: &[u8], v: u32, out: &mut [u8]) -> usize
     requires { ⌜ (240 ≤ length (now m)) × ActiveEnds v (now m) × (length (activeBytes v (now m)) ≤ length (now out)) ⌝ }
-    ensures { λ r. ⌜ Placed (now (out .entry)) 0 (activeBytes v (now (m .entry))) r (now (out .exit)) ⌝ }
+    ensures { λ r. ⌜ Written (now (out .entry)) 0 (activeBytes v (now (m .entry))) r (now (out .exit)) ⌝ }
 {
     let a = put_field(&m[240..], out, 0);
     let b = put_if(message::file_on(v), &m[108..236], out, a);

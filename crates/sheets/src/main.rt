@@ -1,8 +1,6 @@
 // Reads settings sheets from standard input, writes each into a buffer, and prints what was written (tests/sheets/README.md).
 mod print;
 
-use plan::Choice;
-
 // Fills buf with first, first + 1 and so on, modulo 256, so that a byte that is moved or changed shows.
 fn fill(buf: &mut [u8], first: u8) {
     let mut x = first;
@@ -16,10 +14,11 @@ fn fill(buf: &mut [u8], first: u8) {
 
 // The lines of one sheet.
 fn one(sheet: &[u8], buf: &mut [u8], permission: u8) {
-    let w = writer::write(sheet, buf, permission);
-    match w {
-        Choice::Plan(plan) => print::written(plan as u32, sheet, buf),
-        Choice::Refused { number, place } => print::refused(number, place, buf),
+    let w = dhcpopt_writer::dhcpopt_write(sheet, buf, permission);
+    if w.refusal == 0 {
+        print::written(w.plan, sheet, buf);
+    } else {
+        print::refused(w.refusal, w.place, buf);
     }
     console::word(b"-\n");
 }
@@ -37,8 +36,8 @@ fn next() -> bool {
     if io::read_full(0, &mut head) < 6 {
         return false;
     }
-    let length = kinds::be16(head[1], head[2]) as usize;
-    let size = kinds::be16(head[4], head[5]) as usize;
+    let length = num::be16(head[1], head[2]) as usize;
+    let size = num::be16(head[4], head[5]) as usize;
     if 1600 < length {
         return false;
     }

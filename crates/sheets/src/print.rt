@@ -2,22 +2,12 @@
 use console::one;
 use console::word;
 use message::part;
-use records::Given;
-
-// Two hexadecimal digits for each byte.
-fn hex(s: &[u8]) {
-    let mut i: usize = 0;
-    while i < s.len() {
-        io::print_hex(1, console::wide(s[i]), 2);
-        i = i + 1;
-    }
-}
 
 // The bytes up to the last that is not zero, and the number of zeros behind it.
 fn shown(f: &[u8]) {
     let n = kinds::text_len(f);
     word(b" ");
-    hex(part(f, 0, n));
+    console::hex(part(f, 0, n));
     one(b" zeros", (f.len() - n) as u64);
 }
 
@@ -50,16 +40,13 @@ fn same(a: &[u8], b: &[u8]) -> bool {
 // Whether the records of m are the sheet.
 fn back(sheet: &[u8], m: &[u8]) {
     let mut out = [0u8; 4096];
-    let g = records::records(m, &mut out);
-    match g {
-        Given::Refused { number, place } => console::two(b"back refused", number as usize, place),
-        Given::Bytes(n) => {
-            if same(sheet, part(&out, 0, n)) {
-                word(b"back same");
-            } else {
-                word(b"back differs");
-            }
-        }
+    let g = dhcpopt_reader::dhcpopt_records(m, &mut out);
+    if g.refusal != 0 {
+        console::two(b"back refused", g.refusal as usize, g.place);
+    } else if same(sheet, part(&out, 0, g.size)) {
+        word(b"back same");
+    } else {
+        word(b"back differs");
     }
     word(b"\n");
 }

@@ -172,7 +172,7 @@ pub body-at : {f : List ℕ} {i c : ℕ} {d : List ℕ} → OptionAt f i c d →
 body-at {f} {i} {c} {d} o = rw (← drop-drop 2 i f, o .reads) (take-at d (o .after) (length d) refl)
 
 -- a part of a list, and a part of that
-inner : (j n k : ℕ) (xs : List ℕ) → j + k ≤ n → take k (drop j (take n xs)) ≡ take k (drop j xs)
+pub inner : (j n k : ℕ) (xs : List ℕ) → j + k ≤ n → take k (drop j (take n xs)) ≡ take k (drop j xs)
 inner zero n k xs h = take-take k n xs (omega arith)
 inner (suc j) zero k xs h = absurd (omega arith)
 inner (suc j) (suc n) k [] h = refl

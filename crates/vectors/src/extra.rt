@@ -81,6 +81,14 @@ fn walks(m: &[u8]) {
     print::addresses(m, 50);
 }
 
+// The same by a reader.
+fn reader_walks(m: &[u8]) {
+    print::steps(m, 3);
+    print::steps(m, 4);
+    print::steps(m, 6);
+    print::steps(m, 50);
+}
+
 // The records of the message take 53 bytes: one sheet holds them, one is too small.
 fn sheets(m: &[u8]) {
     let mut sheet = [0u8; 53];
@@ -97,7 +105,7 @@ fn refused() {
     print::look_up(&m, ALL, 0);
     print::data(&m, 12);
     print::text(&m, ALL, 12);
-    print::present(present::present(&m));
+    print::present(dhcpopt_reader::dhcpopt_present(&m));
     print::records(&m, &mut sheet);
 }
 
@@ -111,4 +119,5 @@ pub fn lines() {
     walks(&m);
     sheets(&m);
     refused();
+    reader_walks(&m);
 }

@@ -1,8 +1,8 @@
 // Reads messages from standard input, and prints what the calls answer for each (tests/vectors/README.md).
 mod extra;
 mod print;
+mod walk;
 
-use lookup::Answer;
 use wire::Spot;
 
 // Every code, as a known set.
@@ -20,19 +20,10 @@ fn field_lookups(m: &[u8], f: &[u8]) {
     }
 }
 
-// The value of option 52, or 0.
-fn overload(m: &[u8]) -> u32 {
-    let a = lookup::lookup(m, ALL, 52);
-    match a {
-        Answer::Octet(v) => v as u32,
-        _ => 0,
-    }
-}
-
 // The lookup of each option, in reading order.
 fn lookups(m: &[u8]) {
     field_lookups(m, message::part(m, 240, 1232));
-    let v = overload(m);
+    let v = message::find(m, 52).over;
     if message::file_on(v) {
         field_lookups(m, message::part(m, 108, 128));
     }
@@ -46,8 +37,8 @@ fn one(m: &[u8]) {
     let mut text = [0u8; 16384];
     let n = listing::list(m, &mut text);
     console::word(&text[..n]);
-    let p = present::present(m);
-    if p.number == 0 {
+    let p = dhcpopt_reader::dhcpopt_present(m);
+    if p.refusal == 0 {
         print::present(p);
         lookups(m);
         let mut sheet = [0u8; 2048];

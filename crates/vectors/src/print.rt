@@ -1,67 +1,59 @@
-// The lines of the output, each from the call that it shows.
-ghost use mathlib.Core.Path.{_≡_};
-ghost use Rattle.options.specs.Answers as answers;
+// The lines of the output, each from the call that it shows. Most calls are those that C links.
+use crate::walk;
 use console::number;
 use console::one;
 use console::sum;
 use console::two;
-use console::wide;
 use console::word;
-use lookup::Answer;
-use lookup::Extent;
-use present::Codes;
-use records::Given;
+use dhcpopt_reader::PlainAnswer;
+use dhcpopt_reader::PlainCodes;
+use dhcpopt_reader::PlainExtent;
+use message::part;
 
-// How far x is from 0.
-fn distance(x: i32) -> u64 {
-    if x < 0 {
-        let k = -1 - x;
-        return k as u64 + 1;
-    }
-    x as u64
+// A blank and the name of an answer: absent, unknown, refused, or a kind, each in 11 bytes.
+fn name(i: u32) {
+    let t = part(
+        b" absent\0\0\0\0 unknown\0\0\0 refused\0\0\0 address\0\0\0 addresses\0 pairs\0\0\0\0\0 flag\0\0\0\0\0\0 octet\0\0\0\0\0 number16\0\0 numbers16\0 unsigned32 signed32\0\0 text\0\0\0\0\0\0 opaque\0\0\0\0",
+        i as usize * 11,
+        11,
+    );
+    word(part(t, 0, kinds::text_len(t)));
 }
 
-// A blank and a number that may be below 0.
-fn signed(x: i32) {
-    word(b" ");
-    if x < 0 {
-        word(b"-");
+// The name of an answer, by its status and its kind.
+fn answer_name(status: u32, kind: u32) {
+    if status < 3 {
+        name(status);
+    } else {
+        name(kind % 12 + 2);
     }
-    io::print_decimal(1, distance(x));
 }
 
-// A blank, the name of the answer, and its numbers.
-fn answer(a: Answer) {
-    match a {
-        Answer::Absent => word(b" absent"),
-        Answer::Unknown { start, len } => two(b" unknown", start, len),
-        Answer::Refused { number, place } => two(b" refused", number as usize, place),
-        Answer::Address(n) => one(b" address", n as u64),
-        Answer::Addresses { start, len } => two(b" addresses", start, len),
-        Answer::Pairs { start, len } => two(b" pairs", start, len),
-        Answer::Flag(n) => one(b" flag", n as u64),
-        Answer::Octet(n) => one(b" octet", n as u64),
-        Answer::Number16(n) => one(b" number16", n as u64),
-        Answer::Numbers16 { start, len } => two(b" numbers16", start, len),
-        Answer::Unsigned32(n) => one(b" unsigned32", n as u64),
-        Answer::Signed32(n) => {
-            word(b" signed32");
-            signed(n);
-        }
-        Answer::Text { start, len } => two(b" text", start, len),
-        Answer::Opaque { start, len } => two(b" opaque", start, len),
+// The name of the answer, and its numbers.
+fn answer(a: PlainAnswer) {
+    answer_name(a.status, a.kind);
+    if a.status == 3 {
+        console::signed(a.number);
+        return;
+    }
+    if a.status == 2 {
+        two(b"", a.refusal as usize, a.place);
+        return;
+    }
+    if a.status != 0 {
+        two(b"", a.start, a.length);
     }
 }
 
 // The line of a lookup.
 pub fn look_up(m: &[u8], known: [u64; 4], code: u8) {
     io::print_decimal(1, code as u64);
-    answer(lookup::lookup(m, known, code));
+    answer(dhcpopt_reader::dhcpopt_lookup(m, known[0], known[1], known[2], known[3], code));
     word(b"\n");
 }
 
 // The line of the codes present.
-pub fn present(p: Codes) {
+pub fn present(p: PlainCodes) {
     let w = p.words;
     one(b"present", w[0]);
     number(w[1]);
@@ -72,61 +64,79 @@ pub fn present(p: Codes) {
     word(b"\n");
 }
 
+// What was written to a lent buffer: how many bytes, and their sum.
+fn written(size: usize, sheet: &[u8]) {
+    one(b"records", size as u64);
+    number(sum(part(sheet, 0, size)));
+    word(b"\n");
+}
+
 // The line of the records that are written to a lent buffer.
-pub fn records(m: &[u8], sheet: &mut [u8])
-    ensures { λ _. ⌜ now (sheet .exit) ≡ answers.records (now (m .entry)) (now (sheet .entry)) .buffer ⌝ }
-{
-    match records::records(m, sheet) {
-        Given::Refused { number, place } => two(b"records refused", number as usize, place),
-        Given::Bytes(n) => {
-            one(b"records", n as u64);
-            number(sum(message::part(sheet, 0, n)));
-        }
+pub fn records(m: &[u8], sheet: &mut [u8]) {
+    let f = dhcpopt_reader::dhcpopt_records(m, sheet);
+    if f.refusal == 0 {
+        written(f.size, sheet);
+        return;
     }
+    two(b"records refused", f.refusal as usize, f.place);
     word(b"\n");
 }
 
 // The place and the bytes of a part, after a name and a code.
-fn part(name: &[u8], code: u8, e: Extent, bytes: &[u8]) {
+fn shown(name: &[u8], code: u8, e: PlainExtent, bytes: &[u8]) {
     one(name, code as u64);
     number(e.start as u64);
-    number(e.len as u64);
-    let mut i: usize = 0;
-    while i < bytes.len() {
-        number(wide(bytes[i]));
-        i = i + 1;
-    }
+    number(e.length as u64);
+    console::bytes(bytes);
     word(b"\n");
 }
 
-// The line of the data of a code.
+// The line of the data of a code: its place from the call for C, its bytes from the call that gives a part.
 pub fn data(m: &[u8], code: u8) {
-    part(
+    shown(
         b"data",
         code,
-        lookup::data_extent(m, code),
+        dhcpopt_reader::dhcpopt_data(m, code),
         lookup::data(m, code),
     );
 }
 
-// The line of the text of a code.
+// The line of the text of a code, likewise.
 pub fn text(m: &[u8], known: [u64; 4], code: u8) {
-    part(
+    shown(
         b"text",
         code,
-        lookup::text_extent(m, known, code),
+        dhcpopt_reader::dhcpopt_text(m, known[0], known[1], known[2], known[3], code),
         lookup::text(m, known, code),
     );
 }
 
-// The line of the address walk over the data of a code; data have at most 63 addresses.
+// The line of the address walk over the data of a code, by the call for C; data have at most 63 addresses.
 pub fn addresses(m: &[u8], code: u8) {
     one(b"walk", code as u64);
     let list = lookup::data(m, code);
     let mut at: usize = 0;
     let mut left: usize = 64;
     while left > 0 {
-        let c = address::step_at(list, at);
+        let c = dhcpopt_reader::dhcpopt_address_step(list, at);
+        if c.given == 0 {
+            break;
+        }
+        number(c.address as u64);
+        at = c.next;
+        left = left - 1;
+    }
+    word(b"\n");
+}
+
+// The same by a reader.
+pub fn steps(m: &[u8], code: u8) {
+    one(b"steps", code as u64);
+    let list = lookup::data(m, code);
+    let mut at: usize = 0;
+    let mut left: usize = 64;
+    while left > 0 {
+        let c = walk::stepped(list, at);
         if !c.given {
             break;
         }

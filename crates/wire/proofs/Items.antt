@@ -1,14 +1,16 @@
 -- What `nextOf` tells of a field from an offset on. Assumes nothing.
 use mathlib.Core.Path.{_≡_, refl, sym, ap, _∙_, subst}
 use mathlib.Core.List.{List, [], _∷_}
+use mathlib.Core.Option.{some}
 use Prim.Native.Nat.{ℕ, _+_, _≤_, _<_}
 use native.Mathlib.Omega.{arith}
 use native.Mathlib.Decide.{ℕ-discrete, decLt}
 use lib.ListN.{length, getD, drop, length-drop}
 use lib.Seq.{drop-drop}
-use Rattle.options.specs.Reading.{found}
+use Rattle.options.specs.Message.{Rec}
+use Rattle.options.specs.Reading.{Parse, ended, ranOut, beyond, found}
 use Rattle.wire.specs.Walk.{itemAt}
-use Rattle.wire.specs.Ahead.{nextOf}
+use Rattle.wire.specs.Ahead.{nextOf, firstOption, spotOption, SpotKeepsTheOption}
 use Rattle.wire.specs.declared.Spot.{Spot}
 use Rattle.wire.specs.declared.Spot.the-variants.{Item, Stop}
 use Rattle.wire.proofs.Laws.{rest, rest-none, rest-pad, rest-end, rest-last, rest-long, rest-found, body-length}
@@ -55,3 +57,18 @@ ahead f (x ∷ xs) i e =
 
 pub item-ahead : (f : List ℕ) (i o c n : ℕ) → nextOf (rest f i) ≡ Item o c n → ItemAhead f i o c n
 item-ahead f i o c n e = subst (Ahead f i) e (ahead f (drop i f) i refl)
+
+same-item : (i : ℕ) (x y : Rec) (p q : Parse) → found i x p ≡ found i y q → x ≡ y
+same-item i x y p q e = cc
+
+pub spot-keeps-the-option : SpotKeepsTheOption
+spot-keeps-the-option f from = go (rest f from) refl
+  where
+    go : (p : Parse) → rest f from ≡ p → spotOption f (nextOf p) ≡ firstOption p
+    go ended e = refl
+    go (ranOut i) e = refl
+    go (beyond i) e = refl
+    go (found i x p) e =
+        let n : ℕ = length (x .body) in
+        let a = item-ahead f from i (x .tag) n (ap nextOf e) in
+        ap (λ (y : Rec). some (i, y)) (same-item i (itemAt (x .tag) n f i) x (rest f (i + 2 + n)) p (sym (a .is) ∙ e))

@@ -1,7 +1,7 @@
 // The writer (document 01, The settings sheet and the writer): a sheet into a buffer by the first permitted plan that fits, or a refusal.
 ghost use mathlib.Core.Path.{_≡_};
 ghost use mathlib.Core.Bool.{cond};
-ghost use Prim.Native.Nat.{_-_, _≤_, _<_};
+ghost use Prim.Native.Nat.{_-_, _≤_};
 ghost use lib.ListN.{length, drop};
 ghost use Rattle.options.specs.Message.{cookie};
 ghost use Rattle.options.specs.Reading.{fileIn, snameIn};
@@ -12,12 +12,6 @@ ghost use Rattle.plan.specs.Steps.{leftOver, From};
 ghost use Rattle.writer.specs.Fill.{filled, leastRoom};
 ghost use Rattle.writer.specs.Writer.{Gives};
 use plan::Choice;
-
-fn wide(x: u8) -> usize
-    ensures { λ r. ⌜ (r ≡ x) × (r < 256) ⌝ }
-{
-    x as usize
-}
 
 fn put_cookie(room: &mut [u8])
     requires { ⌜ length (now room) ≡ 4 ⌝ }
@@ -38,7 +32,7 @@ fn fill(field: &mut [u8], s: &[u8], from: usize) -> usize
     let mut at = from;
     let mut end = 0;
     while at < s.len() {
-        let size = wide(s[at + 2]) + 2;
+        let size = num::wide(s[at + 2]) + 2;
         let next = end + size;
         if field.len() <= next {
             break;

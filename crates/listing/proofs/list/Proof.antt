@@ -1,10 +1,11 @@
 -- `listing::list` meets its contract. Assumes nothing.
 use borrow.Author.Needs.{needs}
+use mathlib.Core.Path.{sym}
 use native.Mathlib.Omega.{arith}
 use Rattle.message.proofs.Bridge.{all-bytes}
-use Rattle.listing.proofs.Buffers.{puts-as}
+use Rattle.text.proofs.Putting.{puts-more, puts-front}
 use Rattle.listing.proofs.Room.{refused-short}
-use Rattle.listing.proofs.Whole.{at-front, listing-refused, listing-accepted, long-enough, has-room}
+use Rattle.listing.proofs.Whole.{listing-refused, listing-accepted, has-room}
 use Rattle.listing.proofs.list.Statement.{statement}
 use Rattle.listing.proofs.list.Tie as tie
 
@@ -12,27 +13,52 @@ scan-requires : tie.Need-scan-requires
 scan-requires c κs = search needs
 
 put-refusal-requires : tie.Need-put-refusal-requires
-put-refusal-requires c κs = let w = c .before .before .before .scan .result in omega (arith, refused-short (w .number) (w .place))
+put-refusal-requires c κs = search needs
 
 returns : tie.Need-returns
 returns c =
-    let w = c .before .before .before .before .scan in
-    at-front (puts-as (listing-refused (c .before .before .before .before .before .before .before .args .m .now) (w .result) (w .last .1 .1 .0) (w .ensures) (c .before .before .if1 .taken)) (c .put-refusal .ensures))
+    let i = c .before .before in
+    let s = i .before .before in
+    let w = s .scan in
+    let m = s .before .before .before .args .m .now in
+    rw (sym (listing-refused m (w .result) (w .last .1 .1 .0) (w .ensures) (i .if1 .taken)))
+    (puts-front (omega (arith, refused-short (w .result .number) (w .result .place))) (c .put-refusal .ensures))
 
-put-options-requires : tie.Need-put-options-requires
-put-options-requires c κs =
-    let m = c .before .before .before .before .before .before .args .m .now in
-    let w = c .before .before .before .scan in
-    let k = all-bytes m (λ i. c .before .before .before .before .before .shared-slice-known .given i .fits) in
-    (long-enough m (w .result) (w .last .1 .1 .0) k (w .ensures) (c .before .if1 .left), omega (arith, has-room m (w .result) (w .last .1 .1 .0) k (w .ensures) (c .before .if1 .left)))
+count-requires : tie.Need-count-requires
+count-requires c κs = search needs
+
+cast-put-count : tie.Need-cast-put-count
+cast-put-count c = search needs
+
+put-count-requires : tie.Need-put-count-requires
+put-count-requires c κs = search needs
+
+put-lines-requires : tie.Need-put-lines-requires
+put-lines-requires c κs = search needs
 
 returns-2 : tie.Need-returns-2
 returns-2 c =
-    let m = c .before .before .before .before .before .before .before .args .m .now in
-    let w = c .before .before .before .before .scan in
-    let k = all-bytes m (λ i. c .before .before .before .before .before .before .shared-slice-known .given i .fits) in
-    at-front (puts-as (listing-accepted m (w .result) (w .last .1 .1 .0) k (w .ensures) (c .before .before .if1 .left)) (c .put-options .ensures))
+    let n = c .before .before in
+    let k = n .before .before in
+    let i = k .before in
+    let s = i .before .before in
+    let w = s .scan in
+    let o = s .before .before in
+    let m = o .before .args .m .now in
+    let b = all-bytes m (λ j. o .shared-slice-known .given j .fits) in
+    rw (sym (listing-accepted m (w .result) (w .last .1 .1 .0) b (w .ensures) (i .if1 .left)))
+    (puts-front (omega (arith, has-room m (w .result) (w .last .1 .1 .0) b (w .ensures) (i .if1 .left)))
+    (puts-more (rw (k .count .ensures) at (n .put-count .ensures)) (c .put-lines .ensures)))
 
 pub list-spec : {M : Type 1} → statement M
 list-spec =
-    tie.close (tie.spec scan-requires put-refusal-requires returns put-options-requires returns-2)
+    tie.close
+    (tie.spec
+    scan-requires
+    put-refusal-requires
+    returns
+    count-requires
+    cast-put-count
+    put-count-requires
+    put-lines-requires
+    returns-2)

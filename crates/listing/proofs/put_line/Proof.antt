@@ -1,42 +1,27 @@
 -- `listing::put_line` meets its contract. Assumes nothing.
 use borrow.Author.Needs.{needs}
-use Prim.Native.Nat.{_≤_}
-use native.Mathlib.Omega.{arith}
-use lib.ListN.{length}
-use Rattle.listing.proofs.Buffers.{puts-as, puts-more}
-use Rattle.listing.proofs.Lines.{line-joined, line-size}
+use Rattle.text.proofs.Putting.{puts-as, puts-more}
+use Rattle.listing.proofs.Lines.{line-made}
 use Rattle.listing.proofs.put_line.Statement.{statement}
 use Rattle.listing.proofs.put_line.Tie as tie
 
 put-decimal-requires : tie.Need-put-decimal-requires
-put-decimal-requires c κs =
-    let a = c .before .before .args in
-    omega (arith, line-size (a .code) (a .start) (a .len))
+put-decimal-requires c κs = search needs
 
 put-byte-requires : tie.Need-put-byte-requires
-put-byte-requires c κs =
-    let a = c .before .before .before .before .before .before .args in
-    omega (arith, line-size (a .code) (a .start) (a .len))
+put-byte-requires c κs = search needs
 
 put-decimal-requires-2 : tie.Need-put-decimal-requires-2
-put-decimal-requires-2 c κs =
-    let a = c .before .before .before .before .before .before .before .before .before .before .args in
-    omega (arith, line-size (a .code) (a .start) (a .len))
+put-decimal-requires-2 c κs = search needs
 
 put-byte-requires-2 : tie.Need-put-byte-requires-2
-put-byte-requires-2 c κs =
-    let a = c .before .before .before .before .before .before .before .before .before .before .before .before .before .before .args in
-    omega (arith, line-size (a .code) (a .start) (a .len))
+put-byte-requires-2 c κs = search needs
 
 put-decimal-requires-3 : tie.Need-put-decimal-requires-3
-put-decimal-requires-3 c κs =
-    let a = c .before .before .before .before .before .before .before .before .before .before .before .before .before .before .before .before .before .before .args in
-    omega (arith, line-size (a .code) (a .start) (a .len))
+put-decimal-requires-3 c κs = search needs
 
 put-byte-requires-3 : tie.Need-put-byte-requires-3
-put-byte-requires-3 c κs =
-    let a = c .before .before .before .before .before .before .before .before .before .before .before .before .before .before .before .before .before .before .before .before .before .before .args in
-    omega (arith, line-size (a .code) (a .start) (a .len))
+put-byte-requires-3 c κs = search needs
 
 same-length : tie.Need-same-length
 same-length c = search needs
@@ -51,9 +36,8 @@ returns c =
     let p1 = p2 .before .before .before .before in
     let b = p1 .before .before .before in
     let a = b .args in
-    let h : a .at ≤ length (a .out .now) = omega arith in
-    puts-as (line-joined (a .code) (a .start) (a .len))
-    (puts-more h (puts-more h (puts-more h (puts-more h (puts-more h (p1 .put-decimal .ensures) (p2 .put-byte .ensures)) (p3 .put-decimal2 .ensures))
+    puts-as (line-made (a .code) (a .start) (a .len))
+    (puts-more (puts-more (puts-more (puts-more (puts-more (p1 .put-decimal .ensures) (p2 .put-byte .ensures)) (p3 .put-decimal2 .ensures))
     (p4 .put-byte2 .ensures)) (p5 .put-decimal3 .ensures)) (p6 .put-byte3 .ensures))
 
 pub put-line-spec : {M : Type 1} → statement M

@@ -1,10 +1,7 @@
 -- `listing::put_refusal` meets its contract. Assumes nothing.
 use borrow.Author.Needs.{needs}
-use Prim.Native.Nat.{_≤_}
-use native.Mathlib.Omega.{arith}
-use lib.ListN.{length}
-use Rattle.listing.proofs.Buffers.{puts-as, puts-more}
-use Rattle.listing.proofs.Lines.{refused-joined, refused-size}
+use Rattle.text.proofs.Putting.{puts-as, puts-more}
+use Rattle.listing.proofs.Lines.{refused-made}
 use Rattle.listing.proofs.put_refusal.Statement.{statement}
 use Rattle.listing.proofs.put_refusal.Tie as tie
 
@@ -12,29 +9,19 @@ slice-aggregate-put-word : tie.Need-slice-aggregate-put-word
 slice-aggregate-put-word c = search needs
 
 put-word-requires : tie.Need-put-word-requires
-put-word-requires c κs =
-    let a = c .before .before .before .args in
-    omega (arith, refused-size (a .number) (a .place))
+put-word-requires c κs = search needs
 
 put-decimal-requires : tie.Need-put-decimal-requires
-put-decimal-requires c κs =
-    let a = c .before .before .before .before .before .before .before .args in
-    omega (arith, refused-size (a .number) (a .place))
+put-decimal-requires c κs = search needs
 
 put-byte-requires : tie.Need-put-byte-requires
-put-byte-requires c κs =
-    let a = c .before .before .before .before .before .before .before .before .before .before .before .args in
-    omega (arith, refused-size (a .number) (a .place))
+put-byte-requires c κs = search needs
 
 put-decimal-requires-2 : tie.Need-put-decimal-requires-2
-put-decimal-requires-2 c κs =
-    let a = c .before .before .before .before .before .before .before .before .before .before .before .before .before .before .before .args in
-    omega (arith, refused-size (a .number) (a .place))
+put-decimal-requires-2 c κs = search needs
 
 put-byte-requires-2 : tie.Need-put-byte-requires-2
-put-byte-requires-2 c κs =
-    let a = c .before .before .before .before .before .before .before .before .before .before .before .before .before .before .before .before .before .before .before .args in
-    omega (arith, refused-size (a .number) (a .place))
+put-byte-requires-2 c κs = search needs
 
 same-length : tie.Need-same-length
 same-length c = search needs
@@ -48,9 +35,8 @@ returns c =
     let p1 = p2 .before .before .before .before in
     let b = p1 .before .before .before .before in
     let a = b .args in
-    let h : 0 ≤ length (a .out .now) = omega arith in
-    puts-as (refused-joined (a .number) (a .place))
-    (puts-more h (puts-more h (puts-more h (puts-more h (p1 .put-word .ensures) (p2 .put-decimal .ensures)) (p3 .put-byte .ensures))
+    puts-as (refused-made (a .number) (a .place))
+    (puts-more (puts-more (puts-more (puts-more (p1 .put-word .ensures) (p2 .put-decimal .ensures)) (p3 .put-byte .ensures))
     (p4 .put-decimal2 .ensures)) (p5 .put-byte2 .ensures))
 
 pub put-refusal-spec : {M : Type 1} → statement M

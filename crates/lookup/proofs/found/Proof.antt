@@ -8,7 +8,7 @@ use Rattle.options.specs.CodeSet.{marked}
 use Rattle.options.specs.Kinds.{kindOf}
 use Rattle.kinds.specs.Numbers.{kindAt, faultOf}
 use Rattle.kinds.proofs.Numbering.{no-row, row, fault-broken, fault-kept}
-use Rattle.lookup.specs.Shown.{dataAt, valueOf}
+use Rattle.lookup.specs.Found.{dataAt, valueOf}
 use Rattle.lookup.proofs.Laws.{found-absent, found-no-row, found-unmarked, found-broken, found-kept}
 use Rattle.lookup.proofs.found.Statement.{statement}
 use Rattle.lookup.proofs.found.Tie as tie

@@ -2,7 +2,8 @@
 use borrow.Author.Needs.{needs}
 use mathlib.Core.Path.{_≡_, sym, ap, _∙_}
 use Rattle.options.specs.KindClaims.{AllBytes}
-use Rattle.message.specs.Scan.{stopAt, unfitOf}
+use Rattle.message.specs.Scan.{stopAt}
+use Rattle.message.specs.Walking.{unfitOf}
 use Rattle.message.proofs.Bridge.{all-bytes}
 use Rattle.message.proofs.Split.{fit-length, scan-unfit, scan-fault, Cleared, scan-done}
 use Rattle.message.proofs.scan.Statement.{statement}

@@ -8,8 +8,10 @@ use lib.ListN.{length}
 use Rattle.options.specs.Message.{options, file, sname, bytes}
 use Rattle.options.specs.Reading.{fileIn, snameIn}
 use Rattle.message.proofs.Laws.{take-rest}
-use Rattle.records.specs.Fill.{Placed, fieldBytes, activeBytes}
-use Rattle.records.proofs.Laying.{parts-length, placed-parts}
+use Rattle.buffer.specs.Written.{Written}
+use Rattle.buffer.proofs.Writing.{written-more}
+use Rattle.records.specs.FieldRecords.{fieldBytes, activeBytes}
+use Rattle.records.proofs.Laying.{parts-length}
 use Rattle.records.proofs.put_active.Statement.{statement}
 use Rattle.records.proofs.put_active.Tie as tie
 
@@ -23,12 +25,12 @@ room s =
 
 -- after options, and after file
 first : (c : tie.After-put-field) → let a = c .before .before .before .before .before .args in
-    Placed (a .out .now) 0 (fieldBytes true (bytes options (a .m .now))) (c .put-field .result) (c .put-field .last .1 .0)
+    Written (a .out .now) 0 (fieldBytes true (bytes options (a .m .now))) (c .put-field .result) (c .put-field .last .1 .0)
 first c = rw (take-rest (c .before .before .before .before .before .args .m .now) 240) at (c .put-field .ensures)
 
 second : (c : tie.After-put-if) → let p = c .before .before .before .before .before .before in
     let a = p .before .before .before .before .before .args in
-    Placed (p .put-field .last .1 .0) (p .put-field .result) (fieldBytes (fileIn (a .v)) (bytes file (a .m .now))) (c .put-if .result) (c .put-if .last .1 .1 .0)
+    Written (p .put-field .last .1 .0) (p .put-field .result) (fieldBytes (fileIn (a .v)) (bytes file (a .m .now))) (c .put-if .result) (c .put-if .last .1 .1 .0)
 second c = rw (c .before .before .before .file-on .ensures) at (c .put-if .ensures)
 
 sub-put-field : tie.Need-sub-put-field
@@ -88,12 +90,11 @@ same-length c = search needs
 
 returns : tie.Need-returns
 returns c =
-    let s = c .before .before .before .before .before .before .before .before .before .before .before .before .before .before .before .before .before .before .before in
-    let p = c .before .before .before .before .before .before .before .before .before .before .before .before .before .before in
-    let q = c .before .before .before .before .before .before .before .before in
-    let a = s .args in
-    placed-parts (fieldBytes true (bytes options (a .m .now))) (fieldBytes (fileIn (a .v)) (bytes file (a .m .now))) (fieldBytes (snameIn (a .v)) (bytes sname (a .m .now)))
-    (s .pre .2) (p .put-field .kept .1 .0) (first p) (second q) (rw (c .before .before .before .before .before .sname-on .ensures) at (c .before .before .put-if2 .ensures))
+    let r = c .before .before in
+    let n = r .before .before .before in
+    let q = n .before .before .before in
+    let p = q .before .before .before .before .before .before in
+    written-more (first p) (written-more (second q) (rw (n .sname-on .ensures) at (r .put-if2 .ensures)))
 
 pub put-active-spec : {M : Type 1} → statement M
 put-active-spec =

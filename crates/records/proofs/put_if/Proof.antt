@@ -1,14 +1,14 @@
 -- `records::put_if` meets its contract. Assumes nothing.
 use borrow.Author.Needs.{needs}
 use borrow.Author.Tests.{not-true, not-false}
-use Rattle.records.proofs.Laying.{placed-none}
+use Rattle.records.proofs.Laying.{written-inactive}
 use Rattle.records.proofs.put_if.Statement.{statement}
 use Rattle.records.proofs.put_if.Tie as tie
 
 returns : tie.Need-returns
 returns c =
     let a = c .before .before .before .args in
-    placed-none (a .on) (a .f .now) (a .out .now) (a .at) (not-true (a .on) (c .if1 .taken))
+    written-inactive (a .on) (a .f .now) (a .out .now) (a .at) (not-true (a .on) (c .if1 .taken))
 
 put-field-requires : tie.Need-put-field-requires
 put-field-requires c κs =

@@ -2,14 +2,14 @@
 use borrow.Author.Needs.{needs}
 use native.Mathlib.Omega.{arith}
 use borrow.Author.Tests.{eq-eqb, ne-eqb}
-use Rattle.records.proofs.Laying.{placed-nil}
+use Rattle.buffer.proofs.Writing.{written-none}
 use Rattle.records.proofs.put_option.Statement.{statement}
 use Rattle.records.proofs.put_option.Tie as tie
 
 returns : tie.Need-returns
 returns c =
     let a = c .before .before .before .args in
-    rw (eq-eqb (a .code) 52 (c .if1 .taken)) (placed-nil (a .out .now) (a .at))
+    rw (eq-eqb (a .code) 52 (c .if1 .taken)) (written-none (a .out .now) (a .at))
 
 put-record-requires : tie.Need-put-record-requires
 put-record-requires c κs =

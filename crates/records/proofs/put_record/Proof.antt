@@ -5,7 +5,7 @@ use mathlib.Core.Path.{refl, _∙_}
 use mathlib.Core.List.{List, [], _∷_}
 use Prim.Native.Nat.{ℕ, _+_}
 use lib.ListN.{length, set, length-set}
-use Rattle.records.proofs.Buffers.{laid-three, laid-laid, laid-copied}
+use Rattle.buffer.proofs.Writing.{laid-three, laid-laid, laid-copied}
 use Rattle.records.proofs.put_record.Statement.{statement}
 use Rattle.records.proofs.put_record.Tie as tie
 
@@ -55,7 +55,7 @@ returns c =
     let n : ℕ = length (a .body .now) in
     let x : List ℕ = set (set (set (a .out .now) (a .at) (a .code)) (a .at + 1) 0) (a .at + 2) n in
     laid-copied x (a .at + 3) (a .at + 3 + n) (c .before .before .copy .last .0) (a .body .now) refl (simp length-set (s .pre .0)) (c .before .before .copy .ensures)
-    ∙ rw (laid-three (a .out .now) (a .at) (a .code) 0 n (omega (arith, s .pre .0))) (laid-laid (a .out .now) (a .at) (a .code ∷ 0 ∷ n ∷ []) (a .body .now) (omega (arith, s .pre .0)))
+    ∙ rw (laid-three (a .out .now) (a .at) (a .code) 0 n (omega (arith, s .pre .0))) (laid-laid (a .out .now) (a .at) (a .code ∷ 0 ∷ n ∷ []) (a .body .now))
 
 pub put-record-spec : {M : Type 1} → statement M
 put-record-spec =

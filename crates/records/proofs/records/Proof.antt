@@ -10,7 +10,7 @@ use Rattle.options.specs.KindClaims.{AllBytes}
 use Rattle.wire.specs.declared.Walked as flat
 use Rattle.message.proofs.Bridge.{all-bytes}
 use Rattle.message.proofs.Split.{scan-refused, scan-accepted, seen-count}
-use Rattle.records.specs.Fill.{room52}
+use Rattle.records.specs.FieldRecords.{room52}
 use Rattle.records.proofs.Outcomes.{Told, told-long, told-ends, told-size, fills-refused, fills-declined, fills-given}
 use Rattle.records.proofs.records.Statement.{statement}
 use Rattle.records.proofs.records.Tie as tie

@@ -3,7 +3,7 @@ use borrow.Author.Needs.{needs}
 use native.Mathlib.Omega.{arith}
 use Prim.Native.Nat.{_+_, _<_, _≤_}
 use borrow.Author.Tests.{lt-ltb, le-ltb}
-use Rattle.records.specs.Fill.{room52}
+use Rattle.records.specs.FieldRecords.{room52}
 use Rattle.records.proofs.too_small.Statement.{statement}
 use Rattle.records.proofs.too_small.Tie as tie
 

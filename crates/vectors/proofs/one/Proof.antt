@@ -19,11 +19,11 @@ slice-aggregate-word c = sym (length-take-le (c .before .list .result) (c .befor
 word-requires : tie.Need-word-requires
 word-requires c κs = search needs
 
+dhcpopt-present-requires : tie.Need-dhcpopt-present-requires
+dhcpopt-present-requires c κs = search needs
+
 present-requires : tie.Need-present-requires
 present-requires c κs = search needs
-
-present-requires-2 : tie.Need-present-requires-2
-present-requires-2 c κs = search needs
 
 lookups-requires : tie.Need-lookups-requires
 lookups-requires c κs = search needs
@@ -51,8 +51,8 @@ one-spec =
     array-share-prefix-text
     slice-aggregate-word
     word-requires
+    dhcpopt-present-requires
     present-requires
-    present-requires-2
     lookups-requires
     slice-aggregate-records
     records-requires

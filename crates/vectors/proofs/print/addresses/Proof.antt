@@ -21,8 +21,8 @@ data-requires c κs = search needs
 loop-holds : tie.Need-loop-holds Inv-loop μ-loop
 loop-holds c = search needs
 
-step-at-requires : tie.Need-step-at-requires Inv-loop μ-loop
-step-at-requires c κs = search needs
+dhcpopt-address-step-requires : tie.Need-dhcpopt-address-step-requires Inv-loop μ-loop
+dhcpopt-address-step-requires c κs = search needs
 
 cast-number : tie.Need-cast-number Inv-loop μ-loop
 cast-number c = search needs
@@ -58,7 +58,7 @@ addresses-spec =
     one-requires
     data-requires
     loop-holds
-    step-at-requires
+    dhcpopt-address-step-requires
     cast-number
     number-requires
     sub-left

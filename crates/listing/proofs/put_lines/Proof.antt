@@ -1,0 +1,116 @@
+-- `listing::put_lines` meets its contract: at each turn what is put, with the lines of the options that are left, makes the whole. Assumes nothing.
+use borrow.Author.Needs.{needs}
+use mathlib.Core.Path.{_≡_, refl, sym, ap, _∙_}
+use mathlib.Core.List.{_∷_}
+use native.Mathlib.Omega.{arith}
+use lib.ListN.{length}
+use Rattle.options.specs.Message.{start}
+use Rattle.options.specs.Answers.{linesOf}
+use Rattle.theorems.proofs.Lengths.{field-le}
+use Rattle.message.specs.Fields.{fieldOf}
+use Rattle.message.specs.Active.{activeOptions}
+use Rattle.cursor.specs.Cursor.{after, left}
+use Rattle.cursor.proofs.Steps.{Next, next, none-left}
+use Rattle.text.proofs.Putting.{Left, left-all, left-more, left-none}
+use Rattle.listing.specs.Line.{lineText}
+use Rattle.listing.proofs.Lines.{lines-next, no-lines}
+use Rattle.listing.proofs.put_lines.Statement.{statement}
+use Rattle.listing.proofs.put_lines.Tie as tie
+
+abbrev Inv-loop : tie.InvT-loop
+Inv-loop m over out₀ at o₀ from₀ out o from = Left out₀ at (linesOf (activeOptions over m)) out o (linesOf (left over m from))
+
+abbrev μ-loop : tie.MeasureT-loop
+μ-loop m over out₀ at o₀ from₀ out o from = length (left over m from)
+
+-- the option of this turn
+turn : (c : tie.After-field Inv-loop μ-loop) → let l = c .before .before .before in
+    let a = l .before .before .before .before .args in
+    Next (a .over) (a .m .now) (l .loop .from) (c .field .given .0 .0) (c .field .given .0 .1 .0) (c .field .given .0 .1 .1 .0) (c .field .given .0 .1 .1 .1 .0)
+turn c =
+    let s = c .before .before in
+    let l = s .before in
+    let a = l .before .before .before .before .args in
+    next (a .over) (a .m .now) (l .loop .from) _ _ _ _ (sym (c .field .given .1) ∙ s .next-option .ensures)
+
+-- where it was matched, from the end of the turn
+abbrev made : (c : tie.After-slice-known2 Inv-loop μ-loop) → tie.After-field Inv-loop μ-loop
+made c = let b = c .before .before .before .before in b .before .before
+
+first-requires : tie.Need-first-requires Inv-loop μ-loop
+first-requires c κs = search needs
+
+loop-holds : tie.Need-loop-holds Inv-loop μ-loop
+loop-holds c = rw (c .first .ensures) (left-all _ _ _)
+
+next-option-requires : tie.Need-next-option-requires Inv-loop μ-loop
+next-option-requires c κs = search needs
+
+enum-known-field : tie.Need-enum-known-field Inv-loop μ-loop
+enum-known-field c = search needs
+
+enum-told : tie.Need-enum-told Inv-loop μ-loop
+enum-told c = search needs
+
+same-length : tie.Need-same-length Inv-loop μ-loop
+same-length c = c .before .before .before .loop .inv .same
+
+returns : tie.Need-returns Inv-loop μ-loop
+returns c =
+    let s = c .before .before in
+    let l = s .before in
+    let a = l .before .before .before .before .args in
+    left-none (l .loop .inv) (no-lines (left (a .over) (a .m .now) (l .loop .from)) (none-left (a .over) (a .m .now) (l .loop .from) (sym (c .enum-told .given .1) ∙ s .next-option .ensures)))
+
+base-requires : tie.Need-base-requires Inv-loop μ-loop
+base-requires c κs = search needs
+
+add-start : tie.Need-add-start Inv-loop μ-loop
+add-start c = let x = turn (c .before .before) in omega (arith, x .within, c .base .ensures .0)
+
+add-start-2 : tie.Need-add-start-2 Inv-loop μ-loop
+add-start-2 c = let x = turn (c .before .before) in omega (arith, x .within, c .base .ensures .0)
+
+put-line-requires : tie.Need-put-line-requires Inv-loop μ-loop
+put-line-requires c κs = search needs
+
+add-t13 : tie.Need-add-t13 Inv-loop μ-loop
+add-t13 c = let x = turn (made c) in omega (arith, x .within)
+
+add-t14 : tie.Need-add-t14 Inv-loop μ-loop
+add-t14 c = let x = turn (made c) in omega (arith, x .within)
+
+loop-less : tie.Need-loop-less Inv-loop μ-loop
+loop-less c = let x = turn (made c) in omega (arith, ap length (x .is))
+
+loop-again : tie.Need-loop-again Inv-loop μ-loop
+loop-again c =
+    let p = c .before .before in
+    let b = p .before .before in
+    let f = made c in
+    let l = f .before .before .before in
+    let x = turn f in
+    let g = f .field .given .0 in
+    left-more (l .loop .inv) _ _ (ap linesOf (x .is) ∙ lines-next (fieldOf (g .0)) (g .1 .0) (g .1 .1 .0) (g .1 .1 .1 .0) (x .body) _ (x .size)) (rw (b .base .ensures .0) at (p .put-line .ensures))
+
+pub put-lines-spec : {M : Type 1} → statement M
+put-lines-spec =
+    tie.close
+    (tie.spec
+    Inv-loop
+    μ-loop
+    first-requires
+    loop-holds
+    next-option-requires
+    enum-known-field
+    enum-told
+    same-length
+    returns
+    base-requires
+    add-start
+    add-start-2
+    put-line-requires
+    add-t13
+    add-t14
+    loop-less
+    loop-again)

@@ -1,15 +1,28 @@
--- The writer's answer as plain numbers, for C: each case with its values. Assumes nothing.
+-- THE WRITER'S ANSWER AS PLAIN NUMBERS, for C: each case with its values, and that none is lost. Assumes nothing.
+use mathlib.Core.Path.{_≡_}
+use mathlib.Core.List.{List}
+use mathlib.Core.Bool.{cond}
+use Prim.Native.Nat.{ℕ}
+use lib.Dec.{eqb}
+use Rattle.options.specs.Kinds.{kinds}
 use Rattle.options.specs.Writing as options
-use Rattle.writer.specs.declared.Wrote.{Wrote}
-use Rattle.writer.specs.declared.Wrote.the-variants.{Plan, Refused}
+use Rattle.plan.specs.Answer.{answerOf, outcomeFrom}
+use Rattle.plan.specs.declared.Choice.{Choice}
+use Rattle.plan.specs.declared.Choice.the-variants.{Plan, Refused}
 use Rattle.dhcpopt_writer.specs.declared.PlainWrote.{PlainWrote}
 
 -- the plan used, or number and place of a refusal
-abbrev pub plainWrote : options.Wrote → PlainWrote
-plainWrote (options.wrote p w) = record { refusal = 0; plan = p; place = 0 }
-plainWrote (options.declined n p) = record { refusal = n; plan = 0; place = p }
-
--- the same of the answer of `writer::write`
-abbrev pub plainOf : Wrote → PlainWrote
+abbrev pub plainOf : Choice → PlainWrote
 plainOf (Plan p) = record { refusal = 0; plan = p; place = 0 }
 plainOf (Refused n p) = record { refusal = n; plan = 0; place = p }
+
+abbrev pub plainWrote : options.Wrote → PlainWrote
+plainWrote w = plainOf (answerOf w)
+
+-- nothing is lost: what C gets, the struct and the buffer after the call, tells what the definition gives; refusal 0 means written
+abbrev pub choiceFrom : PlainWrote → Choice
+choiceFrom a = cond (eqb (a .refusal) 0) (Plan (a .plan)) (Refused (a .refusal) (a .place))
+
+abbrev pub PlainLosesNothing : Type 0
+PlainLosesNothing = (s m : List ℕ) (permission : ℕ)
+    → outcomeFrom (choiceFrom (plainWrote (options.writer kinds s m permission))) (options.bufferAfter m (options.writer kinds s m permission)) ≡ options.writer kinds s m permission

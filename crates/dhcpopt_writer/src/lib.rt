@@ -3,7 +3,7 @@ ghost use mathlib.Core.Path.{_≡_};
 ghost use Rattle.options.specs.Kinds.{kinds};
 ghost use Rattle.options.specs.Writing as options;
 ghost use Rattle.dhcpopt_writer.specs.Plain.{plainWrote, plainOf};
-use writer::Wrote;
+use plan::Choice;
 
 // refusal: 0 where the sheet was written, and plan is the plan used; else its number, with its place, and the buffer is as it was.
 #[repr(C)]
@@ -13,16 +13,16 @@ pub struct PlainWrote {
     pub place: usize,
 }
 
-fn of_wrote(w: Wrote) -> PlainWrote
-    ensures { λ r. ⌜ r ≡ plainOf w ⌝ }
+fn of_choice(c: Choice) -> PlainWrote
+    ensures { λ r. ⌜ r ≡ plainOf c ⌝ }
 {
-    match w {
-        Wrote::Plan(plan) => PlainWrote {
+    match c {
+        Choice::Plan(plan) => PlainWrote {
             refusal: 0,
-            plan,
+            plan: plan as u32,
             place: 0,
         },
-        Wrote::Refused { number, place } => PlainWrote {
+        Choice::Refused { number, place } => PlainWrote {
             refusal: number,
             plan: 0,
             place,
@@ -35,5 +35,5 @@ fn of_wrote(w: Wrote) -> PlainWrote
 pub extern "C" fn dhcpopt_write(s: &[u8], m: &mut [u8], permission: u8) -> PlainWrote
     ensures { λ r. ⌜ (r ≡ plainWrote (options.writer kinds (now (s .entry)) (now (m .entry)) permission)) × (now (m .exit) ≡ options.bufferAfter (now (m .entry)) (options.writer kinds (now (s .entry)) (now (m .entry)) permission)) ⌝ }
 {
-    of_wrote(writer::write(s, m, permission))
+    of_choice(writer::write(s, m, permission))
 }

@@ -1,55 +1,50 @@
 -- Option 52 before the records. Assumes nothing.
-use mathlib.Core.Path.{_≡_, sym, ap, ap₂, _∙_}
+use mathlib.Core.Path.{_≡_, sym, ap, ap₂, subst, _∙_}
 use mathlib.Core.List.{List, [], _∷_, _++_}
 use Prim.Native.Nat.{ℕ, _+_, _-_, _≤_}
 use native.Mathlib.Omega.{arith}
-use lib.ListN.{length, take, drop, set, length-drop}
-use lib.Seq.{sets-eq, length-sets}
+use lib.ListN.{length, take, drop, length-drop, length-append}
 use borrow.Rule.Slice.PartMut.{putMid, midOf}
 use borrow.Author.Tests.{ne-eqb}
 use Rattle.options.specs.Message.{Rec}
-use Rattle.options.specs.Writing.{with52}
-use Rattle.writer.specs.Fill.{filled, taken, past52}
+use Rattle.options.specs.Writing.{with52, pastOptions}
+use Rattle.plan.specs.Steps.{leftOver, From}
+use Rattle.plan.proofs.Sizes.{past}
+use Rattle.writer.specs.Fill.{filled}
+use Rattle.field_writer.specs.Room.{withOption}
+use Rattle.field_writer.proofs.Bytes.{with-option}
 use Rattle.buffer.proofs.Copied.{mid-rest, put-rest}
 use Rattle.writer.proofs.Filling.{fill-more}
 
 abbrev pub option52 : ℕ → Rec
 option52 p = record { tag = 52; body = p ∷ [] }
 
-pub from-start : (k : ℕ) → 0 + k ≡ k
-from-start k = omega arith
-
 -- a plan without it
-pub alone : (p n : ℕ) (rs : List Rec) (ys : List ℕ) (r : ℕ) → p ≡ 0 → ys ≡ filled n rs → r ≡ 0 + taken n rs → (ys ≡ filled n (with52 p rs)) × (r ≡ taken (past52 p n) rs)
-alone p n rs ys r z y q = rw z (y, q ∙ from-start (taken n rs))
+pub alone : (s : List ℕ) (p n : ℕ) (rs : List Rec) (ys : List ℕ) (r : ℕ) → p ≡ 0 → ys ≡ filled n rs → From s (leftOver n rs) r → (ys ≡ filled n (with52 p rs)) × From s (pastOptions p n rs) r
+unfolding pastOptions
+alone s p n rs ys r z y q = rw z (y, q)
 
 module _ (p : ℕ) (rs : List Rec) (z : p ≡ 0 → ⊥) where
-  pub first : with52 p rs ≡ option52 p ∷ rs
+  first : with52 p rs ≡ option52 p ∷ rs
   first = rw (ne-eqb p 0 z)
 
-  pub rest : (n : ℕ) → past52 p n ≡ n - 3
-  rest n = rw (ne-eqb p 0 z)
-
   -- written, and the records after it
-  module _ (field ys : List ℕ) (h : 4 ≤ length field) where
-    abbrev with-option : List ℕ
-    with-option = set (set (set field 0 52) 1 1) 2 p
+  module _ (field x ys : List ℕ) (h : 4 ≤ length field) (e : x ≡ withOption field 52 (p ∷ [])) where
+    is : x ≡ (52 ∷ 1 ∷ p ∷ []) ++ drop 3 field
+    is = e ∙ with-option field (p ∷ []) 52 (omega arith) (omega arith)
 
-    is : with-option ≡ (52 ∷ 1 ∷ p ∷ []) ++ drop 3 field
-    is = sets-eq (52 ∷ 1 ∷ p ∷ []) field 0 (omega arith)
+    same52 : length x ≡ length field
+    same52 = ap length is ∙ length-append (52 ∷ 1 ∷ p ∷ []) (drop 3 field) ∙ simp length-drop (omega arith)
 
-    same : length with-option ≡ length field
-    same = length-sets field 0 (52 ∷ 1 ∷ p ∷ [])
+    lent : length (midOf 3 (length x - 3) x) ≡ length field - 3
+    lent = ap length (mid-rest 3 x) ∙ length-drop 3 x ∙ ap (λ (k : ℕ). k - 3) same52
 
-    lent : length (midOf 3 (length with-option - 3) with-option) ≡ length field - 3
-    lent = ap length (mid-rest 3 with-option) ∙ length-drop 3 with-option ∙ ap (λ (k : ℕ). k - 3) same
-
-    pub after : ys ≡ filled (length (midOf 3 (length with-option - 3) with-option)) rs → putMid 3 (length with-option - 3) with-option ys ≡ filled (length field) (with52 p rs)
+    pub after : ys ≡ filled (length (midOf 3 (length x - 3) x)) rs → putMid 3 (length x - 3) x ys ≡ filled (length field) (with52 p rs)
     after y =
-        put-rest 3 with-option ys (omega (arith, same))
+        put-rest 3 x ys (omega (arith, same52))
         ∙ ap₂ (λ (a b : List ℕ). take 3 a ++ b) is (y ∙ ap (λ (k : ℕ). filled k rs) lent)
         ∙ sym (fill-more (length field) (option52 p) rs h)
         ∙ ap (filled (length field)) (sym first)
 
-    pub place52 : (r : ℕ) → r ≡ 0 + taken (length (midOf 3 (length with-option - 3) with-option)) rs → r ≡ taken (past52 p (length field)) rs
-    place52 r q = q ∙ from-start _ ∙ ap (λ (k : ℕ). taken k rs) (lent ∙ sym (rest (length field)))
+    pub from52 : (s : List ℕ) (r : ℕ) → From s (leftOver (length (midOf 3 (length x - 3) x)) rs) r → From s (pastOptions p (length field) rs) r
+    from52 s r q = subst (λ (ts : List Rec). From s ts r) (ap (λ (k : ℕ). leftOver k rs) lent ∙ sym (past (length field) rs h p z)) q

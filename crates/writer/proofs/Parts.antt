@@ -9,9 +9,9 @@ use lib.Seq.{take-at, drop-at, length-take-le, drop-drop}
 use borrow.Rule.Slice.PartMut.{putMid, midOf}
 use lib.Dec.{eqb}
 use borrow.Author.Tests.{ne-eqb}
-use Rattle.options.specs.Message.{cookie}
-use Rattle.writer.specs.Fill.{sheetRecords, filled}
-use Rattle.writer.specs.Writer.{leastRoom, placeIf}
+use Rattle.options.specs.Message.{cookie, Rec}
+use Rattle.options.specs.Writing.{fitsIf}
+use Rattle.writer.specs.Fill.{filled, leastRoom}
 
 -- a part is put back in its place
 pub put-at : (a k : ℕ) (p x q ys : List ℕ) → length p ≡ a → length x ≡ k → putMid a k (p ++ (x ++ q)) ys ≡ p ++ (ys ++ q)
@@ -71,9 +71,6 @@ module _ (h s f c o : List ℕ) (lh : length h ≡ 44) (ls : length s ≡ 64) (l
 
   pub put-cookie : (ys : List ℕ) → putMid 236 4 (join5 h s f c o) ys ≡ join5 h s f ys o
   put-cookie ys = ap (λ (l : List ℕ). putMid 236 4 l ys) (sym (cookie-at c)) ∙ put-at 236 4 (h ++ (s ++ f)) c o ys l3 lc ∙ cookie-at ys
-
-  pub mid-cookie : midOf 236 4 (join5 h s f c o) ≡ c
-  mid-cookie = ap (midOf 236 4) (sym (cookie-at c)) ∙ mid-at 236 4 (h ++ (s ++ f)) c o l3 lc
 
   pub put-options : (ys : List ℕ) → putMid 240 (length (join5 h s f c o) - 240) (join5 h s f c o) ys ≡ join5 h s f c ys
   put-options ys =
@@ -185,11 +182,11 @@ room-52 p n h z = rw (ne-eqb p 0 z) at h
 
 -- ---- Equal for equal
 
-pub field-eq : {z : List ℕ} {u v : Bool} {k l : ℕ} {x y : List ℕ} {i j : ℕ} (s : List ℕ) → z ≡ cond u (filled k (sheetRecords 0 (drop i s))) x → u ≡ v → k ≡ l → x ≡ y → i ≡ j → z ≡ cond v (filled l (sheetRecords 0 (drop j s))) y
-field-eq s q e d f g = rw (← e, ← d, ← f, ← g) q
+pub field-eq : {z : List ℕ} {u v : Bool} {k l : ℕ} {x y : List ℕ} (rs : List Rec) → z ≡ cond u (filled k rs) x → u ≡ v → k ≡ l → x ≡ y → z ≡ cond v (filled l rs) y
+field-eq rs q e d f = rw (← e, ← d, ← f) q
 
-pub place-eq : (u v : Bool) (k l : ℕ) (s : List ℕ) (a b : ℕ) → u ≡ v → k ≡ l → a ≡ b → placeIf u k s a ≡ placeIf v l s b
-place-eq u v k l s a b e f g = rw (e, f, g)
+pub dropped : (u v : Bool) (k l : ℕ) (rs : List Rec) → u ≡ v → k ≡ l → drop (fitsIf u k rs) rs ≡ drop (fitsIf v l rs) rs
+dropped u v k l rs e d = rw (e, d)
 
 pub join5-eq : (h s f c o s′ f′ c′ o′ : List ℕ) → s ≡ s′ → f ≡ f′ → c ≡ c′ → o ≡ o′ → join5 h s f c o ≡ join5 h s′ f′ c′ o′
 join5-eq h s f c o s′ f′ c′ o′ a b d e = rw (a, b, d, e)

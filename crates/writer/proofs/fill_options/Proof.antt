@@ -1,13 +1,12 @@
 -- `writer::fill_options` meets its contract. Assumes nothing.
-use mathlib.Core.Path.{_∙_}
 use mathlib.Core.List.{List}
 use Prim.Native.Nat.{_≤_}
-use lib.ListN.{length, length-set}
+use lib.ListN.{length}
 use denote.Ref.{now}
 use native.Mathlib.Omega.{arith}
 use Rattle.options.specs.Message.{Rec}
-use Rattle.writer.specs.Fill.{sheetRecords}
-use Rattle.writer.proofs.First.{alone, after, place52}
+use Rattle.options.specs.SheetWalk.{recordsLeft}
+use Rattle.writer.proofs.First.{alone, after, from52}
 use Rattle.writer.proofs.Parts.{room-52}
 use borrow.Author.Needs.{needs}
 use Rattle.writer.proofs.fill_options.Statement.{statement}
@@ -25,24 +24,26 @@ same-length c = search needs
 
 returns : tie.Need-returns
 returns c =
-    let start = c .before .before .before .before .before .before .before .args in
+    let branch = c .before .before .before .before in
+    let start = branch .before .before .before .args in
     let call = c .before .before .fill in
-    alone (start .plan) _ (sheetRecords 0 (now (start .s))) (call .last .0) (call .result) (c .before .before .before .before .if1 .taken) (call .ensures .0) (call .ensures .1)
+    alone (now (start .s)) (start .plan) _ (recordsLeft (now (start .s)) 0) (call .last .0) (call .result) (branch .if1 .taken) (call .ensures .0) (call .ensures .1)
 
-slice-write-field : tie.Need-slice-write-field
-slice-write-field c = omega (arith, four c)
+slice-aggregate-put-option : tie.Need-slice-aggregate-put-option
+slice-aggregate-put-option c = search needs
 
-slice-write-field-2 : tie.Need-slice-write-field-2
-slice-write-field-2 c = simp length-set (omega (arith, four c))
+put-option-requires : tie.Need-put-option-requires
+put-option-requires c κs = search needs
 
-slice-write-field-3 : tie.Need-slice-write-field-3
-slice-write-field-3 c = simp length-set (omega (arith, four c))
+-- option 52 leaves the field as long as it was
+still-four : (c : tie.After-put-option) → 4 ≤ length (c .put-option .last .0)
+still-four c = omega (arith, four (c .before .before .before), c .put-option .kept .0)
 
 sub-fill : tie.Need-sub-fill
-sub-fill c = simp length-set (omega (arith, four c))
+sub-fill c = omega (arith, still-four (c .before .before))
 
 part-fill-start : tie.Need-part-fill-start
-part-fill-start c = simp length-set (omega (arith, four c))
+part-fill-start c = omega (arith, still-four (c .before .before))
 
 part-fill-end : tie.Need-part-fill-end
 part-fill-end c = search needs
@@ -51,16 +52,17 @@ fill-requires-2 : tie.Need-fill-requires-2
 fill-requires-2 c κs = search needs
 
 same-length-2 : tie.Need-same-length-2
-same-length-2 c = c .before .field2 .given .1 ∙ simp length-set
+same-length-2 c = search needs
 
 returns-2 : tie.Need-returns-2
 returns-2 c =
-    let branch = c .before .before .before .before in
+    let written = c .before .before .fill2 in
+    let put = c .before .before .before .before .before .before in
+    let branch = put .before .before .before in
     let start = branch .before .before .before .args in
-    let rs : List Rec = sheetRecords 0 (now (start .s)) in
-    let call = c .before .before .fill2 in (
-      after (start .plan) rs (branch .if1 .left) (now (start .field)) (call .last .0) (four branch) (call .ensures .0),
-      place52 (start .plan) rs (branch .if1 .left) (now (start .field)) (call .last .0) (four branch) (call .result) (call .ensures .1),
+    let rs : List Rec = recordsLeft (now (start .s)) 0 in (
+      after (start .plan) rs (branch .if1 .left) (now (start .field)) (put .put-option .last .0) (written .last .0) (four branch) (put .put-option .ensures) (written .ensures .0),
+      from52 (start .plan) rs (branch .if1 .left) (now (start .field)) (put .put-option .last .0) (written .last .0) (four branch) (put .put-option .ensures) (now (start .s)) (written .result) (written .ensures .1),
     )
 
 pub fill-options-spec : {M : Type 1} → statement M
@@ -70,9 +72,8 @@ fill-options-spec =
     fill-requires
     same-length
     returns
-    slice-write-field
-    slice-write-field-2
-    slice-write-field-3
+    slice-aggregate-put-option
+    put-option-requires
     sub-fill
     part-fill-start
     part-fill-end

@@ -1,54 +1,67 @@
--- `writer::write` meets its contract: the tests in the order of `writer`, then the plans. Assumes nothing.
-use mathlib.Core.Path.{_≡_, sym, ap, _∙_}
+-- `writer::write` meets its contract: a refusal leaves the buffer, and a plan that was chosen is written. Assumes nothing.
+use mathlib.Core.Path.{refl}
 use denote.Ref.{now}
-use Rattle.sheet.specs.Judge.{judgeOf}
-use Rattle.sheet.specs.declared.Judged.{Judged}
-use Rattle.writer.proofs.Trying.{too-short, too-long, no-such, sheet-long, faulty-sheet, sound-sheet, whole-sheet, counted}
+use Rattle.options.specs.Writing.{writer}
+use Rattle.writer.proofs.Used.{keeps, Used, used}
 use borrow.Author.Needs.{needs}
 use Rattle.writer.proofs.write.Statement.{statement}
 use Rattle.writer.proofs.write.Tie as tie
 
--- the sheet has no refusal
-no-number : (c : tie.Else5) → judgeOf (now (c .before .before .before .before .before .before .before .before .args .s)) .number ≡ 0
-no-number c = sym (ap (λ (j : Judged). j .number) (c .before .judge .ensures)) ∙ c .if5 .left
+choose-requires : tie.Need-choose-requires
+choose-requires c κs = search needs
+
+enum-known-choice : tie.Need-enum-known-choice
+enum-known-choice c = search needs
+
+enum-known-choice-2 : tie.Need-enum-known-choice-2
+enum-known-choice-2 c = search needs
+
+uses-file-requires : tie.Need-uses-file-requires
+uses-file-requires c κs = search needs
+
+uses-sname-requires : tie.Need-uses-sname-requires
+uses-sname-requires c κs = search needs
+
+-- the plan that was chosen
+planned : (c : tie.After-choice2) → Used (now (c .before .before .before .before .before .args .s)) (now (c .before .before .before .before .before .args .m)) (c .before .before .before .before .before .args .permission) (c .choice2 .given .0 .0)
+planned c =
+    let chosen = c .before .before in
+    let start = chosen .before .before .before .args in
+    used (now (start .s)) (now (start .m)) (start .permission) _ (chosen .choose .result) (chosen .choose .ensures (now (start .m)) refl) (c .choice2 .given .1)
+
+write-plan-requires : tie.Need-write-plan-requires
+write-plan-requires c κs =
+    let lent = c .before .before in
+    let u = planned (lent .before .before) in
+    (u .long, u .room, u .whole, c .before .uses-file .ensures, c .uses-sname .ensures)
 
 returns : tie.Need-returns
-returns c = too-short (now (c .before .before .before .args .s)) (now (c .before .before .before .args .m)) (c .before .before .before .args .permission) (c .if1 .taken)
-
-returns-2 : tie.Need-returns-2
-returns-2 c = too-long (now (c .before .before .before .before .args .s)) (now (c .before .before .before .before .args .m)) (c .before .before .before .before .args .permission) (c .before .if1 .left) (c .if2 .taken)
-
-returns-3 : tie.Need-returns-3
-returns-3 c = no-such (now (c .before .before .before .before .before .args .s)) (now (c .before .before .before .before .before .args .m)) (c .before .before .before .before .before .args .permission) (c .before .before .if1 .left) (c .before .if2 .left) (c .if3 .taken)
-
-returns-4 : tie.Need-returns-4
-returns-4 c = sheet-long (now (c .before .before .before .before .before .before .args .s)) (now (c .before .before .before .before .before .before .args .m)) (c .before .before .before .before .before .before .args .permission) (c .before .before .before .if1 .left) (c .before .before .if2 .left) (c .before .if3 .left) (c .if4 .taken)
-
-judge-requires : tie.Need-judge-requires
-judge-requires c κs = search needs
-
-returns-5 : tie.Need-returns-5
-returns-5 c = faulty-sheet (now (c .before .before .before .before .before .before .before .before .args .s)) (now (c .before .before .before .before .before .before .before .before .args .m)) (c .before .before .before .before .before .before .before .before .args .permission) (c .before .before .before .before .before .if1 .left) (c .before .before .before .before .if2 .left) (c .before .before .before .if3 .left) (c .before .before .if4 .left) _ _ (ap (λ (j : Judged). j .number) (c .before .judge .ensures)) (ap (λ (j : Judged). j .place) (c .before .judge .ensures)) (c .if5 .taken)
-
-write-plans-requires : tie.Need-write-plans-requires
-write-plans-requires c κs = (c .before .before .before .before .before .before .if1 .left, whole-sheet (now (c .before .before .before .before .before .before .before .before .before .args .s)) (no-number (c .before)), ap (λ (j : Judged). j .records) (c .before .before .judge .ensures) ∙ counted (now (c .before .before .before .before .before .before .before .before .before .args .s)) (no-number (c .before)))
+returns c =
+    let chosen = c .before .before .before in
+    let start = chosen .before .before .before .args in
+    keeps (writer _ (now (start .s)) (now (start .m)) (start .permission)) (now (start .m)) (chosen .choose .result) _ _ (chosen .choose .ensures (now (start .m)) refl) (c .before .choice .given .1)
 
 same-length : tie.Need-same-length
 same-length c = search needs
 
-returns-6 : tie.Need-returns-6
-returns-6 c = sound-sheet (now (c .before .before .before .before .before .before .before .before .before .before .before .before .args .s)) (now (c .before .before .before .before .before .before .before .before .before .before .before .before .args .m)) (c .before .before .before .before .before .before .before .before .before .before .before .before .args .permission) (c .before .before .before .before .before .before .before .before .before .if1 .left) (c .before .before .before .before .before .before .before .before .if2 .left) (c .before .before .before .before .before .before .before .if3 .left) (c .before .before .before .before .before .before .if4 .left) (no-number (c .before .before .before .before)) _ _ (c .before .before .write-plans .ensures)
+returns-2 : tie.Need-returns-2
+returns-2 c =
+    let call = c .before .before in
+    let lent = call .before .before .before in
+    let known = lent .before .before in
+    let u = planned known in
+    rw (u .is) (record { answer = refl; buffer = call .write-plan .ensures })
 
 pub write-spec : {M : Type 1} → statement M
 write-spec =
     tie.close
     (tie.spec
+    choose-requires
+    enum-known-choice
+    enum-known-choice-2
+    uses-file-requires
+    uses-sname-requires
+    write-plan-requires
     returns
-    returns-2
-    returns-3
-    returns-4
-    judge-requires
-    returns-5
-    write-plans-requires
     same-length
-    returns-6)
+    returns-2)

@@ -1,7 +1,7 @@
--- `writer::plan_if` meets its contract. Assumes nothing.
+-- `plan::plan_if` meets its contract. Assumes nothing.
 use borrow.Author.Tests.{lt-ltb, le-ltb}
-use Rattle.writer.proofs.plan_if.Statement.{statement}
-use Rattle.writer.proofs.plan_if.Tie as tie
+use Rattle.plan.proofs.plan_if.Statement.{statement}
+use Rattle.plan.proofs.plan_if.Tie as tie
 
 returns : tie.Need-returns
 returns c = rw (lt-ltb _ _ (c .if1 .taken))

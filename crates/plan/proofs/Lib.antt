@@ -1,0 +1,4 @@
+pub mod Counting
+pub mod Sizes
+pub mod Trying
+pub mod Numbers

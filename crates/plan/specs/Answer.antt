@@ -1,0 +1,30 @@
+-- THE ANSWER OF THE WRITER, which depends on the sheet, on the permission and on how long the buffer is. Assumes nothing.
+use mathlib.Core.Path.{_≡_}
+use mathlib.Core.List.{List}
+use Prim.Native.Nat.{ℕ}
+use lib.ListN.{length}
+use Rattle.options.specs.Kinds.{kinds}
+use Rattle.options.specs.Writing as options
+use Rattle.plan.specs.declared.Choice.{Choice}
+use Rattle.plan.specs.declared.Choice.the-variants.{Plan, Refused}
+
+-- "The first that fits is used, and its number is the answer"; else number and place of the refusal
+abbrev pub answerOf : options.Wrote → Choice
+answerOf (options.wrote p w) = Plan p
+answerOf (options.declined n p) = Refused n p
+
+-- what the writer answers for every buffer of n bytes
+abbrev pub Answers : List ℕ → ℕ → ℕ → Choice → Type 0
+Answers s n permission r = (m : List ℕ) → length m ≡ n → r ≡ answerOf (options.writer kinds s m permission)
+
+-- nothing is lost: the answer and the buffer after the call tell what the definition gives
+abbrev pub outcomeFrom : Choice → List ℕ → options.Wrote
+outcomeFrom (Plan p) after = options.wrote p after
+outcomeFrom (Refused n p) after = options.declined n p
+
+abbrev pub AnswerLosesNothing : Type 0
+AnswerLosesNothing = (w : options.Wrote) (m : List ℕ) → outcomeFrom (answerOf w) (options.bufferAfter m w) ≡ w
+
+-- no refusal has number 0
+abbrev pub RefusalsAreNumbered : Type 0
+RefusalsAreNumbered = (s m : List ℕ) (permission n p : ℕ) → options.writer kinds s m permission ≡ options.declined n p → n ≡ 0 → ⊥

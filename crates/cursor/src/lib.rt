@@ -46,20 +46,13 @@ fn after_field(m: &[u8], over: u32, field: Field) -> Step
     ensures { λ r. ⌜ r ≡ stepOf (laterFields over (now (m .entry)) (fieldOf field)) ⌝ }
 {
     match field {
-        Field::Options => match in_field(m, over, Field::File, 0) {
-            Step::Item {
-                field,
-                offset,
-                code,
-                len,
-            } => Step::Item {
-                field,
-                offset,
-                code,
-                len,
-            },
-            Step::Done => in_field(m, over, Field::Sname, 0),
-        },
+        Field::Options => {
+            let s = in_field(m, over, Field::File, 0);
+            match s {
+                Step::Done => in_field(m, over, Field::Sname, 0),
+                _ => s,
+            }
+        }
         Field::File => in_field(m, over, Field::Sname, 0),
         Field::Sname => Step::Done,
     }
@@ -81,18 +74,9 @@ pub fn next_option(m: &[u8], over: u32, from: Position) -> Step
     ensures { λ r. ⌜ r ≡ stepOf (left over (now (m .entry)) from) ⌝ }
 {
     let field = from.field;
-    match in_field(m, over, field, from.offset) {
-        Step::Item {
-            field,
-            offset,
-            code,
-            len,
-        } => Step::Item {
-            field,
-            offset,
-            code,
-            len,
-        },
+    let s = in_field(m, over, field, from.offset);
+    match s {
         Step::Done => after_field(m, over, field),
+        _ => s,
     }
 }

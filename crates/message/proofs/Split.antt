@@ -17,6 +17,7 @@ use Rattle.options.specs.Answers.{wordsOf, present}
 use Rattle.options.specs.KindClaims.{AllBytes}
 use Rattle.codeset.proofs.Words.{mark-other, mark-swap, mark-least, mark-clear}
 use Rattle.theorems.proofs.CodesPresent.{marks-of, seen-length, no-code-twice, present-is}
+use Rattle.theorems.proofs.View.{clash}
 use Rattle.theorems.proofs.Reading.{listed-stands}
 use Rattle.wire.specs.Walk.{withEnds}
 use Rattle.wire.specs.declared.Walked as flat
@@ -24,9 +25,6 @@ use Rattle.message.specs.Scan.{startOf, usedBy, stopAt, scanIn, scanOf, 
 use Rattle.message.specs.Walking.{unfitOf, fieldsOf, Gives}
 use Rattle.message.specs.Active.{optionsIn, fieldFrom, optionsFrom, activeOptions}
 use Rattle.message.proofs.Bridge.{lastStart, keptOf, Kept, Keeps, firstField, fields-keep}
-
-clash {ℓ} : {X : Type ℓ} → _≡_ {A = ℕ} 0 1 → X
-clash e = absurd (omega arith)
 
 -- a field that is accepted gives all its options
 more-is : (o : Opt) (w : Reading) (ps os : List Opt) → ((qs : List Opt) → w ≡ accepted qs → qs ≡ ps) → more o w ≡ accepted os → os ≡ o ∷ ps

@@ -7,7 +7,7 @@ use native.Mathlib.Omega.{arith}
 use lib.ListN.{length, getD, take, drop, length-append}
 use Rattle.wire.specs.Walk.{itemAt}
 use Rattle.wire.proofs.Laws.{rest, rest-pad, rest-end, body-length}
-use Rattle.records.specs.FieldRecords.{optionRecord, hasEnd, fieldEnds, itemsIn, bytesIn, fieldBytes}
+use Rattle.records.specs.FieldRecords.{optionRecord, hasEnd, fieldEnds, itemsIn, bytesIn, fieldRecords}
 use Rattle.buffer.specs.Written.{Written}
 use Rattle.buffer.proofs.Writing.{written-none, written-more}
 use Rattle.records.proofs.Rooms.{option-record}
@@ -20,17 +20,17 @@ pub record Laying (f old : List ℕ) (at : ℕ) (now : List ℕ) (o i : ℕ) : T
   pub ends : hasEnd (rest f i) ≡ true
   pub room : o + length (bytesIn (rest f i)) ≤ length now
   pub same : length now ≡ length old
-  pub whole : (r : ℕ) (last : List ℕ) → Written now o (bytesIn (rest f i)) r last → Written old at (fieldBytes true f) r last
+  pub whole : (r : ℕ) (last : List ℕ) → Written now o (bytesIn (rest f i)) r last → Written old at (fieldRecords true f) r last
 
-pub laying-begins : (f old : List ℕ) (at : ℕ) → fieldEnds true f ≡ true → at + length (fieldBytes true f) ≤ length old → Laying f old at old at 0
-unfolding fieldEnds fieldBytes
+pub laying-begins : (f old : List ℕ) (at : ℕ) → fieldEnds true f ≡ true → at + length (fieldRecords true f) ≤ length old → Laying f old at old at 0
+unfolding fieldEnds fieldRecords
 laying-begins f old at e h = record { ends = e; room = h; same = refl; whole = λ r last p. p }
 
 module _ {f old : List ℕ} {at : ℕ} {now : List ℕ} {o i : ℕ} (y : Laying f old at now o i) where
   pub laying-in : i < length f
   laying-in = inside f i (y .ends)
 
-  pub laying-ends : getD f i 0 ≡ 255 → Written old at (fieldBytes true f) o now
+  pub laying-ends : getD f i 0 ≡ 255 → Written old at (fieldRecords true f) o now
   unfolding bytesIn itemsIn
   laying-ends e = y .whole o now (rw (rest-end f i laying-in e) (written-none now o))
 
@@ -75,8 +75,8 @@ module _ {f old : List ℕ} {at : ℕ} {now : List ℕ} {o i : ℕ} (y : Laying 
 
 -- ---- fields one after another
 
-pub written-inactive : (on : Bool) (f old : List ℕ) (at : ℕ) → on ≡ false → Written old at (fieldBytes on f) at old
-unfolding fieldBytes
+pub written-inactive : (on : Bool) (f old : List ℕ) (at : ℕ) → on ≡ false → Written old at (fieldRecords on f) at old
+unfolding fieldRecords
 written-inactive on f old at e = rw e (written-none old at)
 
 -- three parts, from the start of the buffer on

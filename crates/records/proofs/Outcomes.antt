@@ -22,8 +22,8 @@ use Rattle.buffer.proofs.Writing.{written-front}
 use Rattle.records.specs.declared.Given.{Given}
 use Rattle.records.specs.declared.Given.the-variants.{Bytes, Refused}
 use Rattle.records.specs.Fill.{givenOf, codedGiven, AnswersComeBack, Fills}
-use Rattle.records.specs.FieldRecords.{ActiveEnds, activeBytes, room52}
-use Rattle.records.proofs.Rooms.{rooms52, room-is, active-bytes}
+use Rattle.records.specs.FieldRecords.{ActiveEnds, activeRecords, room52}
+use Rattle.records.proofs.Rooms.{rooms52, room-is, active-records}
 use Rattle.records.proofs.Overload.{right-52, rooms-is}
 use Rattle.records.proofs.AcceptedEnds.{active-ends}
 
@@ -59,26 +59,26 @@ module _ {m : List ℕ} {used count over : ℕ} (t : Told m used count over) whe
   pub told-ends : AllBytes m → ActiveEnds over m
   told-ends b = rw (t .over-is) (active-ends m (t .options) b (t .reads))
 
-  bytes-are : recordBytes (but52 (items (t .options))) ≡ activeBytes over m
-  bytes-are = ap (λ (l : List Opt). recordBytes (but52 (items l))) (t .options-are) ∙ active-bytes over m
+  bytes-are : recordBytes (but52 (items (t .options))) ≡ activeRecords over m
+  bytes-are = ap (λ (l : List Opt). recordBytes (but52 (items l))) (t .options-are) ∙ active-records over m
 
   -- how long the records are
-  pub told-size : used + count ≡ length (activeBytes over m) + room52 over
+  pub told-size : used + count ≡ length (activeRecords over m) + room52 over
   told-size =
       let rooms : rooms52 (items (t .options)) ≡ room52 over =
       rooms-is (t .options) (right-52 m (t .options) (t .reads)) (no-code-twice (record { options = t .options; reads = t .reads })) ∙ ap room52 (sym (t .over-is)) in
       omega (arith, t .used-is, t .count-is, room-is (items (t .options)), ap length bytes-are)
 
-  is-filled : (old : List ℕ) → records m old ≡ filledWith (activeBytes over m) old
+  is-filled : (old : List ℕ) → records m old ≡ filledWith (activeRecords over m) old
   is-filled old = records-is m old (t .reads) ∙ ap (λ (l : List ℕ). filledWith l old) bytes-are
 
   pub fills-declined : (old : List ℕ) → length old + room52 over < used + count → Fills (records m old) (Refused 11 (length old)) old
   fills-declined old l =
-      let b : ltb (length old) (length (activeBytes over m)) ≡ true = lt-ltb (length old) (length (activeBytes over m)) (omega (arith, told-size)) in
+      let b : ltb (length old) (length (activeRecords over m)) ≡ true = lt-ltb (length old) (length (activeRecords over m)) (omega (arith, told-size)) in
       rw (is-filled, b) (record { answer = refl; buffer = refl })
 
-  pub fills-given : (old : List ℕ) {r : ℕ} {after : List ℕ} → used + count ≤ length old + room52 over → Written old 0 (activeBytes over m) r after → Fills (records m old) (Bytes r) after
+  pub fills-given : (old : List ℕ) {r : ℕ} {after : List ℕ} → used + count ≤ length old + room52 over → Written old 0 (activeRecords over m) r after → Fills (records m old) (Bytes r) after
   fills-given old {r} {after} l p =
-      let b : ltb (length old) (length (activeBytes over m)) ≡ false = le-ltb (length old) (length (activeBytes over m)) (omega (arith, told-size)) in
+      let b : ltb (length old) (length (activeRecords over m)) ≡ false = le-ltb (length old) (length (activeRecords over m)) (omega (arith, told-size)) in
       let f = written-front p in
       rw (is-filled, b) (record { answer = ap given (f .0); buffer = f .1 })

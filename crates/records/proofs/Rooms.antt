@@ -11,7 +11,7 @@ use Rattle.options.specs.Reading.{Parse, ended, ranOut, beyond, found, parse, i
 use Rattle.options.specs.Answers.{recordBytes, but52}
 use Rattle.message.specs.Scan.{usedBy}
 use Rattle.message.specs.Active.{optionsIn, fieldFrom, optionsFrom, activeOptions}
-use Rattle.records.specs.FieldRecords.{shortRecord, optionRecord, itemsIn, bytesIn, fieldBytes, activeBytes}
+use Rattle.records.specs.FieldRecords.{shortRecord, optionRecord, itemsIn, bytesIn, fieldRecords, activeRecords}
 
 -- what options 52 would take as records
 unfoldable pub rooms52 : List Rec → ℕ
@@ -58,22 +58,22 @@ items-field fd (ranOut i) = refl
 items-field fd (beyond i) = refl
 items-field fd (found i x p) = ap (λ (l : List Rec). x ∷ l) (items-field fd p)
 
-field-bytes : (on : Bool) (fd : Field) (f : List ℕ) → recordBytes (but52 (items (cond on (optionsIn fd (parse 0 0 f)) []))) ≡ fieldBytes on f
-unfolding fieldBytes bytesIn items but52 recordBytes
-field-bytes true fd f = ap (λ (l : List Rec). recordBytes (but52 l)) (items-field fd (parse 0 0 f))
-field-bytes false fd f = refl
+field-records : (on : Bool) (fd : Field) (f : List ℕ) → recordBytes (but52 (items (cond on (optionsIn fd (parse 0 0 f)) []))) ≡ fieldRecords on f
+unfolding fieldRecords bytesIn items but52 recordBytes
+field-records true fd f = ap (λ (l : List Rec). recordBytes (but52 l)) (items-field fd (parse 0 0 f))
+field-records false fd f = refl
 
-pub active-bytes : (v : ℕ) (m : List ℕ) → recordBytes (but52 (items (activeOptions v m))) ≡ activeBytes v m
+pub active-records : (v : ℕ) (m : List ℕ) → recordBytes (but52 (items (activeOptions v m))) ≡ activeRecords v m
 unfolding optionsFrom fieldFrom
-active-bytes v m =
+active-records v m =
     let a : List Opt = fieldFrom v m options 0 in
     let b : List Opt = fieldFrom v m file 0 in
     let c : List Opt = fieldFrom v m sname 0 in
     ap (λ (l : List Rec). recordBytes (but52 l)) (items-append a (b ++ c) ∙ ap (λ (l : List Rec). items a ++ l) (items-append b c))
     ∙ bytes-append (items a) (items b ++ items c)
-    ∙ ap₂ (λ (x y : List ℕ). x ++ y) (field-bytes true options (bytes options m))
+    ∙ ap₂ (λ (x y : List ℕ). x ++ y) (field-records true options (bytes options m))
     (bytes-append (items b) (items c)
-    ∙ ap₂ (λ (x y : List ℕ). x ++ y) (field-bytes (fileIn v) file (bytes file m)) (field-bytes (snameIn v) sname (bytes sname m)))
+    ∙ ap₂ (λ (x y : List ℕ). x ++ y) (field-records (fileIn v) file (bytes file m)) (field-records (snameIn v) sname (bytes sname m)))
 
 -- ---- one option of a field
 

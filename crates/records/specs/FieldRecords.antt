@@ -47,13 +47,13 @@ unfoldable pub bytesIn : Parse → List ℕ
 unfolding itemsIn but52 recordBytes
 bytesIn p = recordBytes (but52 (itemsIn p))
 
-unfoldable pub fieldBytes : Bool → List ℕ → List ℕ
+unfoldable pub fieldRecords : Bool → List ℕ → List ℕ
 unfolding bytesIn parse
-fieldBytes on f = cond on (bytesIn (parse 0 0 f)) []
+fieldRecords on f = cond on (bytesIn (parse 0 0 f)) []
 
 -- the records of a message whose option 52 is v, or 0 where it has none
-abbrev pub activeBytes : ℕ → List ℕ → List ℕ
-activeBytes v m = fieldBytes true (bytes options m) ++ (fieldBytes (fileIn v) (bytes file m) ++ fieldBytes (snameIn v) (bytes sname m))
+abbrev pub activeRecords : ℕ → List ℕ → List ℕ
+activeRecords v m = fieldRecords true (bytes options m) ++ (fieldRecords (fileIn v) (bytes file m) ++ fieldRecords (snameIn v) (bytes sname m))
 
 -- what option 52 would take as a record, by its value (0: it is not there)
 abbrev pub room52 : ℕ → ℕ

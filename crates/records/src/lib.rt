@@ -7,7 +7,7 @@ ghost use lib.ListN.{length};
 ghost use Rattle.options.specs.Answers as answers;
 ghost use Rattle.buffer.specs.Written.{laid, Written};
 ghost use Rattle.records.specs.Fill.{Fills};
-ghost use Rattle.records.specs.FieldRecords.{shortRecord, optionRecord, fieldEnds, fieldBytes, ActiveEnds, activeBytes, room52};
+ghost use Rattle.records.specs.FieldRecords.{shortRecord, optionRecord, fieldEnds, fieldRecords, ActiveEnds, activeRecords, room52};
 
 // What is given (document 01, What is asked of a message; Numbers given on refusal): how many bytes of the buffer the records take, or a refusal.
 pub enum Given {
@@ -50,8 +50,8 @@ fn put_option(out: &mut [u8], at: usize, code: u8, body: &[u8]) -> usize
 // Lays the records of a field's options over out from at on, and gives the place after them. The field has its END, which the walk that judged it
 // has found: so every item is within the field, and that is not tested again.
 fn put_field(f: &[u8], out: &mut [u8], at: usize) -> usize
-    requires { ⌜ (fieldEnds true (now f) ≡ true) × (at + length (fieldBytes true (now f)) ≤ length (now out)) ⌝ }
-    ensures { λ r. ⌜ Written (now (out .entry)) at (fieldBytes true (now (f .entry))) r (now (out .exit)) ⌝ }
+    requires { ⌜ (fieldEnds true (now f) ≡ true) × (at + length (fieldRecords true (now f)) ≤ length (now out)) ⌝ }
+    ensures { λ r. ⌜ Written (now (out .entry)) at (fieldRecords true (now (f .entry))) r (now (out .exit)) ⌝ }
 {
     let mut o = at;
     let mut i: usize = 0;
@@ -73,8 +73,8 @@ fn put_field(f: &[u8], out: &mut [u8], at: usize) -> usize
 
 // The same for a field that may be inactive.
 fn put_if(on: bool, f: &[u8], out: &mut [u8], at: usize) -> usize
-    requires { ⌜ (fieldEnds on (now f) ≡ true) × (at + length (fieldBytes on (now f)) ≤ length (now out)) ⌝ }
-    ensures { λ r. ⌜ Written (now (out .entry)) at (fieldBytes on (now (f .entry))) r (now (out .exit)) ⌝ }
+    requires { ⌜ (fieldEnds on (now f) ≡ true) × (at + length (fieldRecords on (now f)) ≤ length (now out)) ⌝ }
+    ensures { λ r. ⌜ Written (now (out .entry)) at (fieldRecords on (now (f .entry))) r (now (out .exit)) ⌝ }
 {
     if !on {
         return at;
@@ -84,8 +84,8 @@ fn put_if(on: bool, f: &[u8], out: &mut [u8], at: usize) -> usize
 
 // Lays the records of every active field over out from its start on, in reading order; v is the value of option 52.
 fn put_active(m: &[u8], v: u32, out: &mut [u8]) -> usize
-    requires { ⌜ (240 ≤ length (now m)) × ActiveEnds v (now m) × (length (activeBytes v (now m)) ≤ length (now out)) ⌝ }
-    ensures { λ r. ⌜ Written (now (out .entry)) 0 (activeBytes v (now (m .entry))) r (now (out .exit)) ⌝ }
+    requires { ⌜ (240 ≤ length (now m)) × ActiveEnds v (now m) × (length (activeRecords v (now m)) ≤ length (now out)) ⌝ }
+    ensures { λ r. ⌜ Written (now (out .entry)) 0 (activeRecords v (now (m .entry))) r (now (out .exit)) ⌝ }
 {
     let a = put_field(&m[240..], out, 0);
     let b = put_if(message::file_on(v), &m[108..236], out, a);

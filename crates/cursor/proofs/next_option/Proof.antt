@@ -10,14 +10,14 @@ use Rattle.cursor.proofs.next_option.Tie as tie
 in-field-requires : tie.Need-in-field-requires
 in-field-requires c κs = search needs
 
-enum-known-field : tie.Need-enum-known-field
-enum-known-field c = search needs
-
 enum-told : tie.Need-enum-told
 enum-told c = search needs
 
 after-field-requires : tie.Need-after-field-requires
 after-field-requires c κs = search needs
+
+enum-told-2 : tie.Need-enum-told-2
+enum-told-2 c = search needs
 
 returns : tie.Need-returns
 unfolding optionsFrom
@@ -25,18 +25,18 @@ returns c =
     let n = c .before .before .before in
     let a = n .before .before .args in
     let fd = fieldOf (a .from .field) in
-    let e = c .before .field .given .1 in
-    sym e ∙ step-here (n .in-field .result) (fieldFrom (a .over) (a .m .now) fd (a .from .offset)) (laterFields (a .over) (a .m .now) fd) e (n .in-field .ensures)
+    step-later (c .after-field .result) (fieldFrom (a .over) (a .m .now) fd (a .from .offset)) (laterFields (a .over) (a .m .now) fd) (sym (c .before .enum-told .given .1) ∙ n .in-field .ensures) (c .after-field .ensures)
 
 returns-2 : tie.Need-returns-2
 unfolding optionsFrom
 returns-2 c =
-    let n = c .before .before .before in
+    let n = c .before .before in
     let a = n .before .before .args in
     let fd = fieldOf (a .from .field) in
-    step-later (c .after-field .result) (fieldFrom (a .over) (a .m .now) fd (a .from .offset)) (laterFields (a .over) (a .m .now) fd) (sym (c .before .enum-told .given .1) ∙ n .in-field .ensures) (c .after-field .ensures)
+    let e = c .enum-told2 .given .1 in
+    step-here (n .in-field .result) (fieldFrom (a .over) (a .m .now) fd (a .from .offset)) (laterFields (a .over) (a .m .now) fd) e (n .in-field .ensures)
 
 pub next-option-spec : {M : Type 1} → statement M
 next-option-spec =
     tie.close
-    (tie.spec in-field-requires enum-known-field enum-told after-field-requires returns returns-2)
+    (tie.spec in-field-requires enum-told after-field-requires enum-told-2 returns returns-2)

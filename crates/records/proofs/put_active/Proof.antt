@@ -10,27 +10,27 @@ use Rattle.options.specs.Reading.{fileIn, snameIn}
 use Rattle.message.proofs.Laws.{take-rest}
 use Rattle.buffer.specs.Written.{Written}
 use Rattle.buffer.proofs.Writing.{written-more}
-use Rattle.records.specs.FieldRecords.{fieldBytes, activeBytes}
+use Rattle.records.specs.FieldRecords.{fieldRecords, activeRecords}
 use Rattle.records.proofs.Laying.{parts-length}
 use Rattle.records.proofs.put_active.Statement.{statement}
 use Rattle.records.proofs.put_active.Tie as tie
 
 -- what the three fields take
 room : (s : tie.Start) → let a = s .args in
-    length (activeBytes (a .v) (a .m .now))
-    ≡ length (fieldBytes true (bytes options (a .m .now))) + length (fieldBytes (fileIn (a .v)) (bytes file (a .m .now))) + length (fieldBytes (snameIn (a .v)) (bytes sname (a .m .now)))
+    length (activeRecords (a .v) (a .m .now))
+    ≡ length (fieldRecords true (bytes options (a .m .now))) + length (fieldRecords (fileIn (a .v)) (bytes file (a .m .now))) + length (fieldRecords (snameIn (a .v)) (bytes sname (a .m .now)))
 room s =
     let a = s .args in
-    parts-length (fieldBytes true (bytes options (a .m .now))) (fieldBytes (fileIn (a .v)) (bytes file (a .m .now))) (fieldBytes (snameIn (a .v)) (bytes sname (a .m .now)))
+    parts-length (fieldRecords true (bytes options (a .m .now))) (fieldRecords (fileIn (a .v)) (bytes file (a .m .now))) (fieldRecords (snameIn (a .v)) (bytes sname (a .m .now)))
 
 -- after options, and after file
 first : (c : tie.After-put-field) → let a = c .before .before .before .before .before .args in
-    Written (a .out .now) 0 (fieldBytes true (bytes options (a .m .now))) (c .put-field .result) (c .put-field .last .1 .0)
+    Written (a .out .now) 0 (fieldRecords true (bytes options (a .m .now))) (c .put-field .result) (c .put-field .last .1 .0)
 first c = rw (take-rest (c .before .before .before .before .before .args .m .now) 240) at (c .put-field .ensures)
 
 second : (c : tie.After-put-if) → let p = c .before .before .before .before .before .before in
     let a = p .before .before .before .before .before .args in
-    Written (p .put-field .last .1 .0) (p .put-field .result) (fieldBytes (fileIn (a .v)) (bytes file (a .m .now))) (c .put-if .result) (c .put-if .last .1 .1 .0)
+    Written (p .put-field .last .1 .0) (p .put-field .result) (fieldRecords (fileIn (a .v)) (bytes file (a .m .now))) (c .put-if .result) (c .put-if .last .1 .1 .0)
 second c = rw (c .before .before .before .file-on .ensures) at (c .put-if .ensures)
 
 sub-put-field : tie.Need-sub-put-field

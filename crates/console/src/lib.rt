@@ -34,13 +34,13 @@ pub fn two(name: &[u8], a: usize, b: usize) {
     number(b as u64);
 }
 
-// How far x is from 0.
-fn distance(x: i64) -> u64 {
-    if x < 0 {
-        let k = -1 - x;
+// How far z is from 0.
+fn distance(z: i64) -> u64 {
+    if z < 0 {
+        let k = -1 - z;
         return k as u64 + 1;
     }
-    x as u64
+    z as u64
 }
 
 // A blank and a number that may be below 0.

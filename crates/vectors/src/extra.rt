@@ -97,27 +97,37 @@ fn sheets(m: &[u8]) {
     print::records(m, &mut small);
 }
 
-// A message of 240 zeros is refused for its cookie; 10 comes before that.
+// A refused message; 10 comes before that.
+fn refusals(m: &[u8], sheet: &mut [u8]) {
+    print::look_up(m, ALL, 12);
+    print::look_up(m, ALL, 0);
+    print::data(m, 12);
+    print::text(m, ALL, 12);
+    print::present(dhcpopt_reader::dhcpopt_present(m));
+    print::records(m, sheet);
+}
+
+// A message of 240 zeros is refused for its cookie.
 fn refused() {
     let m = [0u8; 240];
     let mut sheet = [0u8; 1];
-    print::look_up(&m, ALL, 12);
-    print::look_up(&m, ALL, 0);
-    print::data(&m, 12);
-    print::text(&m, ALL, 12);
-    print::present(dhcpopt_reader::dhcpopt_present(&m));
-    print::records(&m, &mut sheet);
+    refusals(&m, &mut sheet);
+}
+
+// The calls on one message; then those on a refused one.
+fn calls(m: &[u8]) {
+    lookups(m);
+    data(m);
+    texts(m);
+    walks(m);
+    sheets(m);
+    refused();
+    reader_walks(m);
 }
 
 // The lines after the cases.
 pub fn lines() {
     console::word(b"extra\n");
     let m = message();
-    lookups(&m);
-    data(&m);
-    texts(&m);
-    walks(&m);
-    sheets(&m);
-    refused();
-    reader_walks(&m);
+    calls(&m);
 }

@@ -111,10 +111,8 @@ pub fn text(m: &[u8], known: [u64; 4], code: u8) {
     );
 }
 
-// The line of the address walk over the data of a code, by the call for C; data have at most 63 addresses.
-pub fn addresses(m: &[u8], code: u8) {
-    one(b"walk", code as u64);
-    let list = lookup::data(m, code);
+// The addresses of a list, by the call for C; data have at most 63.
+fn by_calls(list: &[u8]) {
     let mut at: usize = 0;
     let mut left: usize = 64;
     while left > 0 {
@@ -126,13 +124,17 @@ pub fn addresses(m: &[u8], code: u8) {
         at = c.next;
         left = left - 1;
     }
+}
+
+// The line of the address walk over the data of a code.
+pub fn addresses(m: &[u8], code: u8) {
+    one(b"walk", code as u64);
+    by_calls(lookup::data(m, code));
     word(b"\n");
 }
 
-// The same by a reader.
-pub fn steps(m: &[u8], code: u8) {
-    one(b"steps", code as u64);
-    let list = lookup::data(m, code);
+// The addresses of a list, by a reader.
+fn by_reader(list: &[u8]) {
     let mut at: usize = 0;
     let mut left: usize = 64;
     while left > 0 {
@@ -144,5 +146,11 @@ pub fn steps(m: &[u8], code: u8) {
         at = c.next;
         left = left - 1;
     }
+}
+
+// The line of that walk.
+pub fn steps(m: &[u8], code: u8) {
+    one(b"steps", code as u64);
+    by_reader(lookup::data(m, code));
     word(b"\n");
 }

@@ -1,4 +1,4 @@
--- `console::distance` is safe: x fits 64 bits, and so does -1 - x where x is below 0. Assumes nothing.
+-- `console::distance` is safe: z fits 64 bits, and so does -1 - z where z is below 0. Assumes nothing.
 use borrow.Author.Needs.{needs}
 use borrow.Author.Tests.{ltb-true, le-ltb}
 use mathlib.Core.Path.{_≡_, ap, _∙_}
@@ -29,9 +29,9 @@ module _ (y : ℤ) (e : ltZ y (pos 0) ≡ true) (f : SFits w64 y) where
   back : toZ w64 (ofZ w64 (negsuc 0 -ℤ y)) ≡ pos (mag y)
   back = toZ-ofZ w64 (negsuc 0 -ℤ y) fits-below ∙ mirror y e
 
--- what the machine reads of x fits 64 bits
-read : (c : tie.Start) → SFits w64 (toZ w64 (ofZ w64 (c .args .x)))
-read c = let f : SFits w64 (c .args .x) = search needs in rw (toZ-ofZ w64 (c .args .x) f) f
+-- what the machine reads of z fits 64 bits
+read : (c : tie.Start) → SFits w64 (toZ w64 (ofZ w64 (c .args .z)))
+read c = let f : SFits w64 (c .args .z) = search needs in rw (toZ-ofZ w64 (c .args .z) f) f
 
 sub-k : tie.Need-sub-k
 sub-k c = fits-below _ (c .if1 .taken) (read (c .before))

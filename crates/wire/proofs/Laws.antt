@@ -13,7 +13,8 @@ use lib.Seq.{drop-cons, drop-drop, length-take-le, getD-take, getD-drop}
 use borrow.Author.Tests.{eq-eqb, ne-eqb, lt-ltb, le-ltb}
 use Rattle.options.specs.Message.{Rec}
 use Rattle.options.specs.Reading.{Parse, ended, ranOut, beyond, found, right52, parse}
-use Rattle.wire.specs.Walk.{itemAt, overWrong, startAfter, stop, noted, walkOf, begin, walkField, whyAt}
+use Rattle.wire.specs.Walk.{itemAt, overWrong, startAfter, stop, noted, walkOf, begin, walkField}
+use Rattle.wire.specs.Ends.{whyAt}
 use Rattle.wire.specs.Walk.{State}
 use Rattle.options.specs.CodeSet.{marked}
 use Rattle.codeset.proofs.Words.{one-shl, or-marked, or-unmarked}

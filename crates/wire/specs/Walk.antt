@@ -1,4 +1,5 @@
--- The walk of one field over a code set of four words: the twin of `judge` that the code follows. Crate message ties it to `readMessage`. Assumes nothing.
+-- The walk of one field over a code set of four words: the twin of `judge` that the code follows. The contract of `walk` rests on this file, and crate message
+-- ties it to `readMessage`. Assumes nothing.
 use mathlib.Core.Path.{_≡_}
 use mathlib.Core.Bool.{Bool, true, false, cond, not}
 use mathlib.Core.List.{List}
@@ -77,18 +78,7 @@ unfoldable pub walkField : Bool → ℕ → List ℕ → List ℕ → Walk
 unfolding walkOf parse
 walkField main want w f = walkOf main want (begin w) (parse 0 0 f)
 
--- why a walk ends before these items: 0 at END, else the number of the refusal; an option that may stand was met before
-abbrev pub whyAt : Bool → Parse → ℕ
-whyAt main ended = 0
-whyAt main (ranOut i) = 5
-whyAt main (beyond i) = 4
-whyAt main (found i x rest) = cond (overWrong main x) 6 7
-
 -- ---- the code's struct
-
-abbrev pub walkedAt : ℕ → ℕ → ℕ → ℕ → ℕ → flat.Walked
-walkedAt number i start used over =
-    record { start = start; used = used; place = cond (eqb number 0) 0 i; over = over; number = number }
 
 abbrev pub walkedOf : Walk → flat.Walked
 walkedOf w =

@@ -4,7 +4,8 @@ ghost use mathlib.Core.Bool.{false};
 ghost use Prim.Native.Nat.{_+_, _<_, _≤_};
 ghost use lib.ListN.{length, getD, drop};
 ghost use Rattle.options.specs.Reading.{parse};
-ghost use Rattle.wire.specs.Walk.{itemAt, overWrong, overAfter, startAfter, whyAt, walkedAt, Walks};
+ghost use Rattle.wire.specs.Walk.{itemAt, overWrong, overAfter, startAfter, Walks};
+ghost use Rattle.wire.specs.Ends.{whyAt, walkedAt};
 ghost use Rattle.wire.specs.Ahead.{nextOf};
 
 // What a walk gives: where the data of the wanted code start, just after their length byte (0: not met); how many bytes the options take, pads

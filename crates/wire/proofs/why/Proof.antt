@@ -5,7 +5,7 @@ use mathlib.Core.Path.{_≡_, refl}
 use mathlib.Core.Bool.{cond}
 use Prim.Native.Nat.{_<_, _≤_, _+_}
 use lib.ListN.{length, getD}
-use Rattle.wire.specs.Walk.{whyAt}
+use Rattle.wire.specs.Ends.{whyAt}
 use Rattle.wire.proofs.Laws.{rest, rest-none, rest-end, rest-last, rest-long, rest-found}
 use Rattle.wire.proofs.why.Statement.{statement}
 use Rattle.wire.proofs.why.Tie as tie

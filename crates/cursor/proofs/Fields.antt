@@ -1,9 +1,8 @@
 -- The next option of one field, and of the fields after it, as the code finds them. Assumes nothing.
-use mathlib.Core.Path.{_≡_, refl, sym, ap, _∙_}
-use mathlib.Core.Bool.{true, false, not}
+use mathlib.Core.Path.{_≡_, refl}
+use mathlib.Core.Bool.{true, false}
 use mathlib.Core.List.{List, [], _∷_, _++_}
 use Prim.Native.Nat.{ℕ}
-use borrow.Author.Tests.{not-true, not-false}
 use Rattle.options.specs.Message.{bytes, Opt}
 use Rattle.options.specs.Reading.{Parse, ended, ranOut, beyond, found}
 use Rattle.theorems.proofs.View.{clash}
@@ -12,7 +11,7 @@ use Rattle.wire.specs.declared.Spot.{Spot}
 use Rattle.wire.specs.declared.Spot.the-variants as spot
 use Rattle.wire.proofs.Laws.{rest}
 use Rattle.message.specs.declared.Field as coded
-use Rattle.message.specs.Fields.{fieldOf, codedField}
+use Rattle.message.specs.Fields.{fieldOf}
 use Rattle.message.specs.Active.{activeIn, optionsIn, fieldFrom}
 use Rattle.message.proofs.Names.{field-back}
 use Rattle.cursor.specs.declared.Step.{Step}

@@ -7,7 +7,6 @@ use native.Mathlib.Omega.{arith}
 use lib.ListN.{length, take, drop}
 use Rattle.options.specs.Message.{Field, options, file, sname, start, bytes, Rec, Opt, opt}
 use Rattle.options.specs.Reading.{Parse, ended, ranOut, beyond, found, items, overload}
-use Rattle.options.specs.ReadingClaims.{IsAccepted}
 use Rattle.theorems.proofs.View.{clash}
 use Rattle.theorems.proofs.Lengths.{field-within, field-part}
 use Rattle.wire.specs.Ahead.{nextOf}

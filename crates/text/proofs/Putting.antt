@@ -4,10 +4,10 @@ use mathlib.Core.List.{List, [], _∷_, _++_}
 use Prim.Native.Nat.{ℕ, zero, suc, _+_, _-_, _≤_, _<_}
 use native.Mathlib.Omega.{arith}
 use native.Mathlib.Decide.{decLt}
-use lib.ListN.{length, take, drop, set, length-take}
-use lib.Seq.{take-all, take-nil, length-take-le}
+use lib.ListN.{length, take, drop, length-take}
+use lib.Seq.{take-all, take-nil}
 use Rattle.buffer.specs.Written.{Written, laid}
-use Rattle.buffer.proofs.Writing.{laid-none, laid-length, written-none, written-byte, written-as, written-more, written-front}
+use Rattle.buffer.proofs.Writing.{laid-none, laid-length, written-none, written-as, written-more, written-front}
 use Rattle.text.specs.Text.{fitting, Puts}
 
 take-append : (n : ℕ) (xs ys : List ℕ) → take n (xs ++ ys) ≡ take n xs ++ take (n - length xs) ys

@@ -1,18 +1,14 @@
 -- `listing::put_lines` meets its contract: at each turn what is put, with the lines of the options that are left, makes the whole. Assumes nothing.
 use borrow.Author.Needs.{needs}
-use mathlib.Core.Path.{_≡_, refl, sym, ap, _∙_}
-use mathlib.Core.List.{_∷_}
+use mathlib.Core.Path.{sym, ap, _∙_}
 use native.Mathlib.Omega.{arith}
 use lib.ListN.{length}
-use Rattle.options.specs.Message.{start}
 use Rattle.options.specs.Answers.{linesOf}
-use Rattle.theorems.proofs.Lengths.{field-le}
 use Rattle.message.specs.Fields.{fieldOf}
 use Rattle.message.specs.Active.{activeOptions}
-use Rattle.cursor.specs.Cursor.{after, left}
+use Rattle.cursor.specs.Cursor.{left}
 use Rattle.cursor.proofs.Steps.{Next, next, none-left}
 use Rattle.text.proofs.Putting.{Left, left-all, left-more, left-none}
-use Rattle.listing.specs.Line.{lineText}
 use Rattle.listing.proofs.Lines.{lines-next, no-lines}
 use Rattle.listing.proofs.put_lines.Statement.{statement}
 use Rattle.listing.proofs.put_lines.Tie as tie

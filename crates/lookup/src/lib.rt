@@ -69,18 +69,12 @@ fn value(k: u8, d: &[u8], start: usize) -> Answer
     }
 }
 
-fn wide(x: u8) -> usize
-    ensures { λ r. ⌜ (r ≡ x) × (r < 256) ⌝ }
-{
-    x as usize
-}
-
 // The length of data that start at a place: the byte before them.
 fn len_at(m: &[u8], start: usize) -> usize
     requires { ⌜ (0 < start) × (start ≤ length (now m)) ⌝ }
     ensures { λ r. ⌜ (r ≡ getD (now (m .entry)) (start - 1) 0) × (r < 256) ⌝ }
 {
-    wide(m[start - 1])
+    num::wide(m[start - 1])
 }
 
 // The answer for an option whose data start at a place, or that was not met (0).

@@ -8,7 +8,7 @@ use lib.Dec.{eqb, leb}
 use lib.ListN.{length, getD, drop, length-set}
 use borrow.Author.Tests.{eq-eqb, ne-eqb, eqb-true, eqb-false}
 use Rattle.options.specs.Message.{Field, options, file, sname, start, bytes, Rec, Opt, dataStart}
-use Rattle.options.specs.Reading.{Parse, ended, ranOut, beyond, found, span, cut, recordOf, itemOf, isOptions, parse, right52, wrong52, among, judge, more, Reading, accepted, refused, items, seenAfter, join, extend, overload, overloadOf, fileIn, snameIn, allFields}
+use Rattle.options.specs.Reading.{Parse, ended, ranOut, beyond, found, span, cut, recordOf, itemOf, isOptions, parse, right52, wrong52, among, judge, more, Reading, accepted, refused, items, seenAfter, andThen, extend, overload, overloadOf, fileIn, snameIn, allFields}
 use Rattle.options.specs.KindClaims.{AllBytes}
 use Rattle.options.specs.CodeSet.{marked, withMark, noCodes}
 use Rattle.options.specs.Answers.{wordsOf}
@@ -295,7 +295,7 @@ module _ (fd : Field) (want v : ℕ) (m : List ℕ) (b : AllBytes m) (o : isOpti
   -- one more field
   more-keeps : (os : List Opt) (r : Reading) (a : flat.Walked) (w : List ℕ) → Kept want v os a w
       → Walked-as fd want (wordsOf noCodes (items os)) (begin w) (seenAfter [] (items os)) (parse 0 0 (bytes fd m)) r
-      → Keeps want v (join os r) (onTop (start fd) (walkedOf (walkField false want w (bytes fd m))) a) (walkField false want w (bytes fd m) .state .seen)
+      → Keeps want v (andThen os r) (onTop (start fd) (walkedOf (walkField false want w (bytes fd m))) a) (walkField false want w (bytes fd m) .state .seen)
   unfolding walkField
   more-keeps os (refused n q) a w k h = on-top-fault fd (walkOf false want (begin w) (parse 0 0 (bytes fd m))) n q a (rw o at h)
   more-keeps os (accepted ps) a w k h =
@@ -328,7 +328,7 @@ keeps-fault want v on fd m (accepted os) a w w′ k z = absurd (z (ap (λ (x : f
 
 -- the options field alone
 unfoldable pub firstField : List ℕ → Reading
-firstField m = join [] (judge options [] (parse 0 0 (drop 240 m)))
+firstField m = andThen [] (judge options [] (parse 0 0 (drop 240 m)))
 
 keeps-over : (want v : ℕ) (r : Reading) (a : flat.Walked) (w : List ℕ) → v ≡ overloadOf r → Keeps want v r a w → a .over ≡ v
 keeps-over want v (refused n q) a w e k = ap (λ (x : flat.Walked). x .over) (k .is) ∙ sym e
@@ -356,7 +356,7 @@ module _ (want : ℕ) (m : List ℕ) (b : AllBytes m) where
       all = walk-judged options want noCodes (begin w) [] (parse 0 0 (drop 240 m)) e marks-none (parse-codes 0 0 (drop 240 m) (all-field options m b))
 
       go : (r : Reading) → judge options [] (parse 0 0 (drop 240 m)) ≡ r
-          → Keeps want (overloadOf (join [] r)) (join [] r) (onTop 240 (walkedOf (walkField true want w (drop 240 m))) (stopAt 0 0)) (walkField true want w (drop 240 m) .state .seen)
+          → Keeps want (overloadOf (andThen [] r)) (andThen [] r) (onTop 240 (walkedOf (walkField true want w (drop 240 m))) (stopAt 0 0)) (walkField true want w (drop 240 m) .state .seen)
       go (refused n q) z = first-keeps want (drop 240 m) w (refused n q) e (subst (λ (r : Reading). Walked-as options want noCodes (begin w) [] (parse 0 0 (drop 240 m)) r) z all)
       go (accepted os) z = first-keeps want (drop 240 m) w (accepted os) e (subst (λ (r : Reading). Walked-as options want noCodes (begin w) [] (parse 0 0 (drop 240 m)) r) z all)
 

@@ -10,7 +10,7 @@ use lib.Dec.{eqb, ltb}
 use lib.ListN.{length, getD, set, take, drop, length-set, replicate}
 use borrow.Author.Tests.{ne-eqb, eqb-true, eqb-false, ltb-false}
 use Rattle.options.specs.Message.{Field, options, file, sname, start, bytes, cookie, Opt, dataStart}
-use Rattle.options.specs.Reading.{Parse, ended, ranOut, beyond, found, parse, wrong52, among, judge, more, Reading, accepted, refused, items, seenAfter, join, extend, overload, overloadOf, fileIn, snameIn, allFields, same, readMessage, find}
+use Rattle.options.specs.Reading.{Parse, ended, ranOut, beyond, found, parse, wrong52, among, judge, more, Reading, accepted, refused, items, seenAfter, andThen, extend, overload, overloadOf, fileIn, snameIn, allFields, same, readMessage, find}
 use Rattle.options.specs.ReadingClaims.{In, Precedes}
 use Rattle.options.specs.CodeSet.{noCodes, countOf, marked, withMark}
 use Rattle.options.specs.Answers.{wordsOf, present}
@@ -46,9 +46,9 @@ judge-all fd seen (found i x p) os e = go (wrong52 fd x) (among (x .tag) seen) e
     go false true z ih = clash (cc)
     go false false z ih = more-is (record { field = fd; offset = i; item = x }) (judge fd (x .tag ∷ seen) p) (optionsIn fd p) os ih z
 
-join-is : (os : List Opt) (w : Reading) (ps qs : List Opt) → ((rs : List Opt) → w ≡ accepted rs → rs ≡ ps) → join os w ≡ accepted qs → qs ≡ os ++ ps
-join-is os (refused n p) ps qs h e = clash (cc)
-join-is os (accepted rs) ps qs h e = let q : rs ≡ ps = h rs refl in cc
+and-then-is : (os : List Opt) (w : Reading) (ps qs : List Opt) → ((rs : List Opt) → w ≡ accepted rs → rs ≡ ps) → andThen os w ≡ accepted qs → qs ≡ os ++ ps
+and-then-is os (refused n p) ps qs h e = clash (cc)
+and-then-is os (accepted rs) ps qs h e = let q : rs ≡ ps = h rs refl in cc
 
 extend-is : (on : Bool) (fd : Field) (m : List ℕ) (w : Reading) (qs : List Opt) → extend on fd m w ≡ accepted qs
     → (os : List Opt) × (w ≡ accepted os) × (qs ≡ os ++ cond on (optionsIn fd (parse 0 0 (bytes fd m))) [])
@@ -57,7 +57,7 @@ extend-is true fd m (refused n p) qs e = clash (cc)
 extend-is true fd m (accepted os) qs e = (
   os,
   refl,
-  join-is os (judge fd (seenAfter [] (items os)) (parse 0 0 (bytes fd m))) (optionsIn fd (parse 0 0 (bytes fd m))) qs (judge-all fd (seenAfter [] (items os)) (parse 0 0 (bytes fd m))) e,
+  and-then-is os (judge fd (seenAfter [] (items os)) (parse 0 0 (bytes fd m))) (optionsIn fd (parse 0 0 (bytes fd m))) qs (judge-all fd (seenAfter [] (items os)) (parse 0 0 (bytes fd m))) e,
 )
 
 fields-split : (m : List ℕ) (os : List Opt) → allFields m ≡ accepted os → os ≡ activeOptions (overloadOf (firstField m)) m

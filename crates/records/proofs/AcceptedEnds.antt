@@ -4,7 +4,7 @@ use mathlib.Core.Bool.{Bool, true, false, cond}
 use mathlib.Core.List.{List, [], _∷_}
 use Prim.Native.Nat.{ℕ, _+_}
 use Rattle.options.specs.Message.{Field, options, file, sname, start, bytes, Opt}
-use Rattle.options.specs.Reading.{Parse, ended, ranOut, beyond, found, parse, wrong52, among, more, judge, Reading, accepted, refused, items, seenAfter, join, extend, overload, overloadOf, fileIn, snameIn, allFields, readMessage}
+use Rattle.options.specs.Reading.{Parse, ended, ranOut, beyond, found, parse, wrong52, among, more, judge, Reading, accepted, refused, items, seenAfter, andThen, extend, overload, overloadOf, fileIn, snameIn, allFields, readMessage}
 use Rattle.options.specs.KindClaims.{AllBytes}
 use Rattle.theorems.proofs.View.{clash}
 use Rattle.message.proofs.Bridge.{firstField}
@@ -46,7 +46,7 @@ extended false fd m w qs e = record { before = qs; was = e; ends = refl }
 extended true fd m (refused n p) qs e = clash (cc)
 extended true fd m (accepted os) qs e = go (judge fd (seenAfter [] (items os)) (parse 0 0 (bytes fd m))) (judge-ends fd (seenAfter [] (items os)) (parse 0 0 (bytes fd m))) e
   where
-    go : (w : Reading) → ((ps : List Opt) → w ≡ accepted ps → hasEnd (parse 0 0 (bytes fd m)) ≡ true) → join os w ≡ accepted qs → Extended true fd m (accepted os)
+    go : (w : Reading) → ((ps : List Opt) → w ≡ accepted ps → hasEnd (parse 0 0 (bytes fd m)) ≡ true) → andThen os w ≡ accepted qs → Extended true fd m (accepted os)
     go (refused n p) ih z = clash (cc)
     go (accepted ps) ih z = record { before = os; was = refl; ends = ih ps refl }
 

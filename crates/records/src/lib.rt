@@ -15,12 +15,6 @@ pub enum Given {
     Refused { number: u32, place: usize },
 }
 
-fn wide(x: u8) -> usize
-    ensures { λ r. ⌜ (r ≡ x) × (r < 256) ⌝ }
-{
-    x as usize
-}
-
 // Lays one record over out from at on. Data of an option has fewer than 256 bytes, so the length's high byte is 0.
 // The part lent to `copy` is as long as body: so the compiler sees that the data fits, and drops its test.
 fn put_record(out: &mut [u8], at: usize, code: u8, body: &[u8])
@@ -64,7 +58,7 @@ fn put_field(f: &[u8], out: &mut [u8], at: usize) -> usize
             i = i + 1;
         } else {
             let j = i + 2;
-            let e = j + wide(f[i + 1]);
+            let e = j + num::wide(f[i + 1]);
             o = put_option(out, o, c, &f[j..e]);
             i = e;
         }

@@ -10,7 +10,7 @@ use lib.Seq.{drop-drop}
 use lib.Dec.{ltb}
 use Rattle.options.specs.Message.{Field, options, file, sname, start, bytes, shortest, longest, cookie, Opt, opt}
 use Rattle.options.specs.Refusals.{row-2}
-use Rattle.options.specs.Reading.{among, Parse, parse, Reading, accepted, refused, more, wrong52, judge, items, seenAfter, join, extend, overloadOf, fileIn, snameIn, allFields, same, readMessage}
+use Rattle.options.specs.Reading.{among, Parse, parse, Reading, accepted, refused, more, wrong52, judge, items, seenAfter, andThen, extend, overloadOf, fileIn, snameIn, allFields, same, readMessage}
 use Rattle.options.specs.Writing.{size}
 use Rattle.options.specs.ReadingClaims.{IsAccepted}
 use Rattle.theorems.proofs.View.{Reads, r-none, r-pad, r-end, r-beyond, r-option, reads}
@@ -74,7 +74,7 @@ extend-holds true fd m n (refused k p) h = tt
 extend-holds true fd m n (accepted os) h =
     go (judge fd (seenAfter [] (items os)) (parse 0 0 (bytes fd m))) (field-holds fd (bytes fd m) (reads (bytes fd m)) (omega arith) (seenAfter [] (items os)))
   where
-    go : (w : Reading) → FromOn (bytes fd m) 0 w → Within (n + length (bytes fd m)) (join os w)
+    go : (w : Reading) → FromOn (bytes fd m) 0 w → Within (n + length (bytes fd m)) (andThen os w)
     go (accepted ps) l = omega (arith, taken-append os ps)
     go (refused k p) l = tt
 

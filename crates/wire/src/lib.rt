@@ -21,12 +21,6 @@ pub struct Walked {
 // The empty set of codes, with 0 and 255 marked as `walk` marks them.
 pub const NO_CODES: [u64; 4] = [1, 0, 0, 9223372036854775808];
 
-fn wide(x: u8) -> usize
-    ensures { λ r. ⌜ (r ≡ x) × (r < 256) ⌝ }
-{
-    x as usize
-}
-
 // Where the data of the wanted code start, after an option with code c whose data start at j.
 fn start_after(start: usize, want: u8, c: u8, j: usize) -> usize
     ensures { λ r. ⌜ r ≡ startAfter want c j start ⌝ }
@@ -94,7 +88,7 @@ fn why(options: bool, f: &[u8], i: usize) -> u32
     if f.len() < j {
         return 4;
     }
-    let n = wide(f[i + 1]);
+    let n = num::wide(f[i + 1]);
     if f.len() < j + n {
         return 4;
     }
@@ -152,7 +146,7 @@ pub fn walk(options: bool, f: &[u8], want: u8, seen: &mut [u64; 4]) -> Walked
             if f.len() < j {
                 break;
             }
-            let n = wide(f[i + 1]);
+            let n = num::wide(f[i + 1]);
             let e = j + n;
             if f.len() < e {
                 break;
@@ -188,7 +182,7 @@ fn item_at(f: &[u8], i: usize, c: u8) -> Spot
     if f.len() <= j {
         return Spot::Stop;
     }
-    let n = wide(f[j]);
+    let n = num::wide(f[j]);
     if f.len() < j + 1 + n {
         return Spot::Stop;
     }

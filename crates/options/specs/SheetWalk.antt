@@ -85,7 +85,7 @@ ruled rules seen allRead = sound []
 ruled rules seen (cutAt i) = faulty 12 i
 ruled rules seen (readAt i r rest) = tested rules seen i r (keep r (ruled rules (r .tag ∷ seen) rest))
 
--- 10: a tag that may not stand
+-- [R10] 10: a tag that may not stand
 abbrev pub wrongTag : List ℕ → Rule
 wrongTag cs = record { breaks = λ seen r. among (r .tag) cs; gives = λ r. 10 }
 
@@ -107,7 +107,7 @@ brokenBy (broken n) = n
 brokenBy (number k n) = 0
 brokenBy (part k n) = 0
 
--- 8 and 9, of a tag that has a row
+-- [R8, R9] 8 and 9, of a tag that has a row
 abbrev pub breaksKind : Table → ℕ → List ℕ → Bool
 breaksKind t b d = cond (t .row b) (isBroken (t .value b d)) false
 

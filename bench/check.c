@@ -10,6 +10,7 @@ enum { ROOM = 4096, UNTOUCHED = 0xA5 };
 
 static const char *const kinds[] = {"",          "address",    "addresses", "pairs", "flag",  "octet", "number16",
                                     "numbers16", "unsigned32", "signed32",  "text",  "opaque"};
+static const char *const fields[] = {"", "options", "file", "sname"};
 static const uint64_t every[4] = {UINT64_MAX, UINT64_MAX, UINT64_MAX, UINT64_MAX};
 static const uint64_t none[4];
 
@@ -33,10 +34,25 @@ static bool untouched(const uint8_t *p, size_t length)
     return true;
 }
 
-/* Reading order of a place: options, then file, then sname. */
-static size_t turn(size_t place)
+/* Reading order: options, then file, then sname. */
+static size_t turn(plain_answer a)
 {
-    return place >= 240 ? place : place >= 108 ? place + 10000 : place + 20000;
+    return a.field * 10000 + a.offset;
+}
+
+/* Start is the field's first byte plus offset plus two; and what an answer does not give is 0. */
+static void hold_members(plain_answer a)
+{
+    static const size_t first[] = {0, 240, 108, 44};
+    bool refused = a.status == PLAIN_REFUSED, there = a.status != PLAIN_ABSENT && !refused;
+    bool number = a.status == PLAIN_NUMBER, part = a.status == PLAIN_PART, broken = a.status == PLAIN_BROKEN;
+    hold(there ? a.field >= PLAIN_OPTIONS && a.field <= PLAIN_SNAME : a.field == PLAIN_NO_FIELD, "field");
+    hold(there ? a.start == first[a.field] + a.offset + 2 : a.start == 0 && a.offset == 0, "offset and start");
+    hold((a.kind != PLAIN_NO_ROW) == (number || part), "kind");
+    hold((a.refusal != 0) == (refused || broken), "refusal");
+    hold(broken ? a.place == first[a.field] + a.offset : refused || a.place == 0, "place");
+    hold(number || a.number == 0, "number");
+    hold(part || a.status == PLAIN_UNKNOWN || a.length == 0, "length");
 }
 
 /* A refused message is refused alike by every call. */
@@ -51,6 +67,7 @@ static void refused(plain_codes p)
         plain_answer a = plain_lookup(m, n, every, (uint8_t)c);
         plain_extent e = plain_data(m, n, (uint8_t)c);
         hold(a.status == PLAIN_REFUSED && a.refusal == p.refusal && a.place == p.place, "lookup in a refused message");
+        hold_members(a);
         hold(e.start == 0 && e.length == 0, "data of a refused message");
     }
     printf("refused %u %zu\n", p.refusal, p.place);
@@ -66,32 +83,35 @@ static void accepted(plain_codes p)
         plain_answer a = plain_lookup(m, n, none, (uint8_t)c);
         bool marked = p.words[c / 64] >> (c % 64) & 1;
         hold(a.status == (marked ? PLAIN_UNKNOWN : PLAIN_ABSENT), "present and lookup");
+        hold_members(a);
         plain_extent e = plain_data(m, n, (uint8_t)c);
         hold(e.length == a.length && e.start == (a.length > 0 ? a.start : 0), "data and lookup");
         if (!marked)
             continue;
         all[c] = a;
         unsigned i = met++;
-        for (; i > 0 && turn(all[order[i - 1]].start) > turn(a.start); i--)
+        for (; i > 0 && turn(all[order[i - 1]]) > turn(a); i--)
             order[i] = order[i - 1];
         order[i] = (uint8_t)c;
     }
     hold(met == p.count, "count");
     printf("accepted %u\n", met);
     for (unsigned i = 0; i < met; i++)
-        printf("%u %zu %zu\n", order[i], all[order[i]].start, all[order[i]].length);
+        printf("%u %zu %zu %s\n", order[i], all[order[i]].start, all[order[i]].length, fields[all[order[i]].field]);
     printf("present %llu %llu %llu %llu count %u lowest %u\n", (unsigned long long)p.words[0], (unsigned long long)p.words[1],
            (unsigned long long)p.words[2], (unsigned long long)p.words[3], p.count, p.lowest);
     for (unsigned i = 0; i < met; i++) {
         plain_answer a = plain_lookup(m, n, every, order[i]);
+        hold_members(a);
         if (a.status == PLAIN_NUMBER)
-            printf("%u %s %lld\n", order[i], kinds[a.kind], (long long)a.number);
+            printf("%u %s %lld", order[i], kinds[a.kind], (long long)a.number);
         else if (a.status == PLAIN_PART)
-            printf("%u %s %zu %zu\n", order[i], kinds[a.kind], a.start, a.length);
+            printf("%u %s %zu", order[i], kinds[a.kind], a.length);
         else if (a.status == PLAIN_UNKNOWN)
-            printf("%u unknown %zu %zu\n", order[i], a.start, a.length);
+            printf("%u unknown %zu", order[i], a.length);
         else
-            printf("%u refused %u %zu\n", order[i], a.refusal, a.place);
+            printf("%u broken %u %zu", order[i], a.refusal, a.place);
+        printf(" %s %zu %zu\n", fields[a.field], a.offset, a.start);
     }
     memset(out, UNTOUCHED, ROOM);
     plain_filled f = plain_records(m, n, out, ROOM);

@@ -1,5 +1,6 @@
 /*
- * compare messages FILE...   makes every reading call on each message by the library and in plain C, and stops where they differ
+ * compare messages FILE...   makes every reading call on each message by the library and in plain C, and stops where they differ;
+ *                            looks up two codes also with any byte changed
  * compare sheets FILE...     writes each sheet with both: every buffer size, every permission, cut off anywhere, any byte changed
  */
 #include "input.h"
@@ -19,11 +20,11 @@ static void compare_lookup(const char *name, const uint64_t known[4], uint8_t co
 {
     plain_answer p = plain_lookup(in, size, known, code);
     dhcpopt_answer l = dhcpopt_lookup(in, size, known[0], known[1], known[2], known[3], code);
-    if (p.status != l.status || p.kind != l.kind || p.refusal != l.refusal || p.number != l.number || p.place != l.place ||
-        p.start != l.start || p.length != l.length) {
-        fprintf(stderr, "lookup of %u: plain %u %u %u %lld %zu %zu %zu, library %u %u %u %lld %zu %zu %zu\n", code,
-                p.status, p.kind, p.refusal, (long long)p.number, p.place, p.start, p.length,
-                l.status, l.kind, l.refusal, (long long)l.number, l.place, l.start, l.length);
+    if (p.status != l.status || p.kind != l.kind || p.refusal != l.refusal || p.field != l.field || p.number != l.number ||
+        p.place != l.place || p.offset != l.offset || p.start != l.start || p.length != l.length) {
+        fprintf(stderr, "lookup of %u: plain %u %u %u %u %lld %zu %zu %zu %zu, library %u %u %u %u %lld %zu %zu %zu %zu\n", code,
+                p.status, p.kind, p.refusal, p.field, (long long)p.number, p.place, p.offset, p.start, p.length,
+                l.status, l.kind, l.refusal, l.field, (long long)l.number, l.place, l.offset, l.start, l.length);
         fail("answers differ", name);
     }
 }
@@ -64,6 +65,20 @@ static void compare_message(const char *name)
     if (f.size > 0)
         compare_records(name, f.size - 1);
     compare_records(name, 0);
+}
+
+/* Any byte behind the header changed to any other: 51, which all these messages hold, and the code that the byte may now be. */
+static void compare_changed(const char *name)
+{
+    for (size_t i = 44; i < size; i++) {
+        uint8_t was = in[i];
+        for (unsigned x = 0; x < 256; x++) {
+            in[i] = (uint8_t)x;
+            compare_lookup(name, every, 51);
+            compare_lookup(name, every, (uint8_t)x);
+        }
+        in[i] = was;
+    }
 }
 
 /* Both write the first n bytes of the sheet. */
@@ -110,8 +125,10 @@ int main(int argc, char **argv)
         size = take(argv[i], in, sizeof in);
         if (strcmp(argv[1], "sheets") == 0)
             compare_sheet(argv[i]);
-        else
+        else {
             compare_message(argv[i]);
+            compare_changed(argv[i]);
+        }
     }
     return 0;
 }

@@ -75,6 +75,15 @@ static bool walk_message(walk *w, const uint8_t *m, size_t n, uint8_t want)
     return true;
 }
 
+/* Where the wanted option stands: its field, the code byte's offset in it, the data's start. */
+static void put_origin(plain_answer *a, size_t at)
+{
+    size_t first = at >= OPTIONS ? OPTIONS : at >= FILE_FIELD ? FILE_FIELD : SNAME;
+    a->field = at >= OPTIONS ? PLAIN_OPTIONS : at >= FILE_FIELD ? PLAIN_FILE : PLAIN_SNAME;
+    a->offset = at - first;
+    a->start = at + 2;
+}
+
 plain_answer plain_lookup(const uint8_t *m, size_t n, const uint64_t known[4], uint8_t code)
 {
     plain_answer a = {0};
@@ -92,16 +101,16 @@ plain_answer plain_lookup(const uint8_t *m, size_t n, const uint64_t known[4], u
     }
     if (w.at == 0)
         return a;
+    put_origin(&a, w.at);
     uint32_t kind = known[code / 64] >> (code % 64) & 1 ? kind_of(code) : PLAIN_NO_ROW;
     const uint8_t *d = m + w.at + 2;
     if (kind == PLAIN_NO_ROW) {
         a.status = PLAIN_UNKNOWN;
-        a.start = w.at + 2;
         a.length = w.length;
         return a;
     }
     if (!length_fits(kind, code, w.length) || !value_fits(kind, code, d, w.length)) {
-        a.status = PLAIN_REFUSED;
+        a.status = PLAIN_BROKEN;
         a.refusal = length_fits(kind, code, w.length) ? 9 : 8;
         a.place = w.at;
         return a;
@@ -123,7 +132,6 @@ plain_answer plain_lookup(const uint8_t *m, size_t n, const uint64_t known[4], u
         return a;
     default:
         a.status = PLAIN_PART;
-        a.start = w.at + 2;
         a.length = w.length;
         if (kind == PLAIN_TEXT)
             while (a.length > 0 && d[a.length - 1] == 0)

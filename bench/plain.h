@@ -1,4 +1,4 @@
-/* Document 01's reader and writer in plain C: the measure for the library's calls. */
+/* The reader and writer of document 01, with request 01 of document 02, in plain C: the measure for the library's calls. */
 #ifndef PLAIN_H
 #define PLAIN_H
 
@@ -6,7 +6,10 @@
 #include <stdint.h>
 
 /* What a lookup answers. */
-enum { PLAIN_ABSENT, PLAIN_UNKNOWN, PLAIN_REFUSED, PLAIN_NUMBER, PLAIN_PART };
+enum { PLAIN_ABSENT, PLAIN_UNKNOWN, PLAIN_REFUSED, PLAIN_NUMBER, PLAIN_PART, PLAIN_BROKEN };
+
+/* The field that holds an option's code byte. */
+enum { PLAIN_NO_FIELD, PLAIN_OPTIONS, PLAIN_FILE, PLAIN_SNAME };
 
 /* The kinds in the order of 01's table; 0: the code has no row. */
 enum {
@@ -26,9 +29,9 @@ enum {
 
 /* What a call does not give is 0. A refusal is 01's number, 0 if there is none. */
 typedef struct {
-    uint32_t status, kind, refusal;
+    uint32_t status, kind, refusal, field;
     int64_t number;
-    size_t place, start, length;
+    size_t place, offset, start, length;
 } plain_answer;
 
 typedef struct {

@@ -22,30 +22,51 @@ static void check(int holds, const char *what, int line)
 static uint8_t message[DHCPOPT_LONGEST_MESSAGE];
 static const dhcpopt_known NONE = {{0, 0, 0, 0}};
 
-/* Zeros, the cookie, and the bytes given in file and in options. The result is the message's size. */
-static size_t make(const char *file, size_t file_size, const char *options, size_t size)
+/* Zeros, the cookie, and the bytes given in options, file and sname. The result is the message's size. */
+static size_t make(const char *options, size_t size, const char *file, size_t file_size, const char *sname, size_t sname_size)
 {
     static const uint8_t cookie[DHCPOPT_COOKIE_SIZE] = {99, 130, 83, 99};
     memset(message, 0, sizeof message);
+    memcpy(message + DHCPOPT_SNAME_OFFSET, sname, sname_size);
     memcpy(message + DHCPOPT_FILE_OFFSET, file, file_size);
     memcpy(message + DHCPOPT_COOKIE_OFFSET, cookie, sizeof cookie);
     memcpy(message + DHCPOPT_OPTIONS_OFFSET, options, size);
     return DHCPOPT_OPTIONS_OFFSET + size;
 }
 
-#define MESSAGE(options) make("", 0, options, sizeof(options) - 1)
-#define OVERLOADED(options, file) make(file, sizeof(file) - 1, options, sizeof(options) - 1)
+#define MESSAGE(options) make(options, sizeof(options) - 1, "", 0, "", 0)
+#define OVERLOADED(options, file, sname) make(options, sizeof(options) - 1, file, sizeof(file) - 1, sname, sizeof(sname) - 1)
 
-static int answers(dhcpopt_answer a, uint32_t status, uint32_t kind, int64_t number, size_t start, size_t length)
+/* What an answer says, and where its option stands. */
+typedef struct {
+    uint32_t status, kind, refusal;
+    int64_t number;
+    size_t place, length;
+} content;
+
+typedef struct {
+    uint32_t field;
+    size_t offset, start;
+} origin;
+
+static int answers(dhcpopt_answer a, content c, origin o)
 {
-    return a.status == status && a.kind == kind && a.number == number && a.start == start && a.length == length && a.refusal == 0 &&
-           a.place == 0;
+    return a.status == c.status && a.kind == c.kind && a.refusal == c.refusal && a.number == c.number && a.place == c.place &&
+           a.length == c.length && a.field == o.field && a.offset == o.offset && a.start == o.start;
 }
+
+static const origin NOWHERE = {DHCPOPT_FIELD_NONE, 0, 0};
 
 static int refuses(dhcpopt_answer a, uint32_t refusal, size_t place)
 {
-    return a.status == DHCPOPT_STATUS_REFUSED && a.refusal == refusal && a.place == place && a.kind == 0 && a.number == 0 &&
-           a.start == 0 && a.length == 0;
+    content c = {DHCPOPT_STATUS_REFUSED, 0, refusal, 0, place, 0};
+    return answers(a, c, NOWHERE);
+}
+
+static int is_absent(dhcpopt_answer a)
+{
+    content c = {DHCPOPT_STATUS_ABSENT, 0, 0, 0, 0, 0};
+    return answers(a, c, NOWHERE);
 }
 
 static int is_part(dhcpopt_extent e, size_t start, size_t length)
@@ -57,26 +78,57 @@ static void lookup(void)
 {
     dhcpopt_known all = dhcpopt_known_all();
     size_t n = MESSAGE("\x35\x01\x05\xff"); /* 2 */
-    CHECK(answers(dhcpopt_lookup_known(message, n, all, 53), DHCPOPT_STATUS_NUMBER, DHCPOPT_KIND_BYTE, 5, 0, 0));
-    CHECK(answers(dhcpopt_lookup_known(message, n, all, 51), DHCPOPT_STATUS_ABSENT, DHCPOPT_KIND_NONE, 0, 0, 0));
-    CHECK(answers(dhcpopt_lookup_known(message, n, NONE, 53), DHCPOPT_STATUS_UNKNOWN, DHCPOPT_KIND_NONE, 0, 242, 1));
+    CHECK(is_absent(dhcpopt_lookup_known(message, n, all, 51)));
     CHECK(refuses(dhcpopt_lookup_known(message, n, all, 0), DHCPOPT_REFUSED_BAD_CODE, 0));
     CHECK(refuses(dhcpopt_lookup_known(message, 239, all, 53), DHCPOPT_REFUSED_TOO_SHORT, 239));
-    n = MESSAGE("\x35\x01\xff\xff"); /* as 2, with a value far from any right one */
-    CHECK(refuses(dhcpopt_lookup_known(message, n, all, 53), DHCPOPT_REFUSED_BAD_VALUE, 240));
-    n = MESSAGE("\x02\x04\xff\xff\xf1\xf0\xff"); /* 5 */
-    CHECK(answers(dhcpopt_lookup_known(message, n, all, 2), DHCPOPT_STATUS_NUMBER, DHCPOPT_KIND_INT32, -3600, 0, 0));
-    n = OVERLOADED("\x34\x01\x01\xff", "\x33\x04\x00\x00\x0e\x10\xff"); /* 6 */
-    CHECK(answers(dhcpopt_lookup_known(message, n, all, 51), DHCPOPT_STATUS_NUMBER, DHCPOPT_KIND_UINT32, 3600, 0, 0));
+    n = OVERLOADED("\x34\x01\x01\xff", "\x33\x04\x00\x00\x0e\x10\xff", ""); /* 6 */
     CHECK(is_part(dhcpopt_data(message, n, 51), 110, 4));
+    n = OVERLOADED("\x34\x01\x01\xff", "", "");
+    CHECK(refuses(dhcpopt_lookup_known(message, n, all, 51), DHCPOPT_REFUSED_NO_END, 236));
     n = MESSAGE("\x35\x01\x05\x35\x01\x05\xff"); /* 8 */
     CHECK(refuses(dhcpopt_lookup_known(message, n, all, 53), DHCPOPT_REFUSED_DUPLICATE, 243));
+}
+
+/* Each answer that comes from an option, in each field, and each also at length 0 where it can be. */
+static const struct {
+    uint8_t code;
+    content says;
+    origin from;
+} FOUND[] = {
+    {52, {DHCPOPT_STATUS_NUMBER, DHCPOPT_KIND_BYTE, 0, 3, 0, 0}, {DHCPOPT_FIELD_OPTIONS, 0, 242}},
+    {12, {DHCPOPT_STATUS_PART, DHCPOPT_KIND_TEXT, 0, 0, 0, 2}, {DHCPOPT_FIELD_OPTIONS, 3, 245}},
+    {254, {DHCPOPT_STATUS_UNKNOWN, 0, 0, 0, 0, 0}, {DHCPOPT_FIELD_OPTIONS, 8, 250}},
+    {53, {DHCPOPT_STATUS_BROKEN, 0, DHCPOPT_REFUSED_BAD_VALUE, 0, 250, 0}, {DHCPOPT_FIELD_OPTIONS, 10, 252}},
+    {1, {DHCPOPT_STATUS_BROKEN, 0, DHCPOPT_REFUSED_BAD_LENGTH, 0, 253, 0}, {DHCPOPT_FIELD_OPTIONS, 13, 255}},
+    {51, {DHCPOPT_STATUS_NUMBER, DHCPOPT_KIND_UINT32, 0, 3600, 0, 0}, {DHCPOPT_FIELD_FILE, 1, 111}},
+    {68, {DHCPOPT_STATUS_PART, DHCPOPT_KIND_ADDRESS_LIST, 0, 0, 0, 0}, {DHCPOPT_FIELD_FILE, 7, 117}},
+    {224, {DHCPOPT_STATUS_UNKNOWN, 0, 0, 0, 0, 2}, {DHCPOPT_FIELD_FILE, 9, 119}},
+    {46, {DHCPOPT_STATUS_BROKEN, 0, DHCPOPT_REFUSED_BAD_VALUE, 0, 121, 0}, {DHCPOPT_FIELD_FILE, 13, 123}},
+    {16, {DHCPOPT_STATUS_BROKEN, 0, DHCPOPT_REFUSED_BAD_LENGTH, 0, 124, 0}, {DHCPOPT_FIELD_FILE, 16, 126}},
+    {2, {DHCPOPT_STATUS_NUMBER, DHCPOPT_KIND_INT32, 0, -3600, 0, 0}, {DHCPOPT_FIELD_SNAME, 0, 46}},
+    {3, {DHCPOPT_STATUS_PART, DHCPOPT_KIND_ADDRESS_LIST, 0, 0, 0, 4}, {DHCPOPT_FIELD_SNAME, 6, 52}},
+    {253, {DHCPOPT_STATUS_UNKNOWN, 0, 0, 0, 0, 0}, {DHCPOPT_FIELD_SNAME, 12, 58}},
+    {19, {DHCPOPT_STATUS_BROKEN, 0, DHCPOPT_REFUSED_BAD_VALUE, 0, 58, 0}, {DHCPOPT_FIELD_SNAME, 14, 60}},
+    {28, {DHCPOPT_STATUS_BROKEN, 0, DHCPOPT_REFUSED_BAD_LENGTH, 0, 61, 0}, {DHCPOPT_FIELD_SNAME, 17, 63}},
+};
+
+static void origins(void)
+{
+    size_t n = OVERLOADED("\x34\x01\x03\x0c\x03" "ab\x00\xfe\x00\x35\x01\xff\x01\x00\xff",
+                          "\x00\x33\x04\x00\x00\x0e\x10\x44\x00\xe0\x02\x07\x0d\x2e\x01\xff\x10\x00\xff",
+                          "\x02\x04\xff\xff\xf1\xf0\x03\x04\xc0\x00\x02\x01\xfd\x00\x13\x01\xff\x1c\x03\x01\x02\x03\xff");
+    for (size_t i = 0; i < sizeof FOUND / sizeof FOUND[0]; i++) {
+        CHECK(answers(dhcpopt_lookup_known(message, n, dhcpopt_known_all(), FOUND[i].code), FOUND[i].says, FOUND[i].from));
+        content unknown = {DHCPOPT_STATUS_UNKNOWN, 0, 0, 0, 0, message[FOUND[i].from.start - 1]};
+        CHECK(answers(dhcpopt_lookup_known(message, n, NONE, FOUND[i].code), unknown, FOUND[i].from));
+    }
+    CHECK(strcmp(dhcpopt_field_name(DHCPOPT_FIELD_OPTIONS), "options") == 0 && strcmp(dhcpopt_field_name(DHCPOPT_FIELD_FILE), "file") == 0);
+    CHECK(strcmp(dhcpopt_field_name(DHCPOPT_FIELD_SNAME), "sname") == 0 && strcmp(dhcpopt_field_name(DHCPOPT_FIELD_NONE), "") == 0);
 }
 
 static void parts(void)
 {
     size_t n = MESSAGE("\x0c\x03" "ab\x00\x42\x01" "x\xff"); /* 4, and 66, a code of the set's second word */
-    CHECK(answers(dhcpopt_lookup_known(message, n, dhcpopt_known_all(), 12), DHCPOPT_STATUS_PART, DHCPOPT_KIND_TEXT, 0, 242, 2));
     CHECK(is_part(dhcpopt_data(message, n, 12), 242, 3));
     CHECK(is_part(dhcpopt_text_known(message, n, dhcpopt_known_all(), 12), 242, 2));
     CHECK(is_part(dhcpopt_text_known(message, n, dhcpopt_known_with(NONE, 12), 12), 242, 2));
@@ -112,7 +164,7 @@ static void records(void)
 {
     static const uint8_t wanted[9] = {51, 0, 4, 0, 0, 14, 16, 238, 238};
     uint8_t out[9];
-    size_t n = OVERLOADED("\x34\x01\x01\xff", "\x33\x04\x00\x00\x0e\x10\xff");
+    size_t n = OVERLOADED("\x34\x01\x01\xff", "\x33\x04\x00\x00\x0e\x10\xff", "");
     memset(out, 238, sizeof out);
     dhcpopt_filled f = dhcpopt_records(message, n, out, 6);
     CHECK(f.refusal == DHCPOPT_REFUSED_NO_ROOM && f.size == 0 && f.place == 6);
@@ -145,6 +197,7 @@ static void write_sheet(void)
 int main(void)
 {
     lookup();
+    origins();
     parts();
     address_step();
     present();

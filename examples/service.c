@@ -4,7 +4,7 @@
  *   service read MESSAGE [CODE...]                 CODE...: the codes that the meter knows. None given: all
  *   service offer SHEET SIZE PERMISSION [MESSAGE]  SIZE: bytes of the message; MESSAGE: a file to write it to
  *
- * Exit status: 0 done, 1 refused, 2 wrong usage, or a file that cannot be read or written.
+ * Exit status: 0 done, 1 refused, or a setting is broken, 2 wrong usage, or a file that cannot be read or written.
  */
 #include "dhcpopt.h"
 
@@ -101,12 +101,12 @@ static bool read_number(const char *word, unsigned long most, unsigned long *num
     return errno == 0 && *end == '\0' && *number <= most;
 }
 
-static void tell_refusal(uint32_t refusal, size_t place)
+static void tell_refusal(const char *word, uint32_t refusal, size_t place)
 {
     if (refusal < sizeof REFUSALS / sizeof REFUSALS[0] && REFUSALS[refusal].cause != NULL)
-        printf("refused %" PRIu32 " at %zu: %s; the place is %s\n", refusal, place, REFUSALS[refusal].cause, REFUSALS[refusal].place);
+        printf("%s %" PRIu32 " at %zu: %s; the place is %s", word, refusal, place, REFUSALS[refusal].cause, REFUSALS[refusal].place);
     else
-        printf("refused %" PRIu32 " at %zu\n", refusal, place);
+        printf("%s %" PRIu32 " at %zu", word, refusal, place);
 }
 
 static void tell_addresses(const uint8_t *list, size_t size)
@@ -117,7 +117,6 @@ static void tell_addresses(const uint8_t *list, size_t size)
                a.address & 255);
         before = ", ";
     }
-    printf("\n");
 }
 
 /* Any byte may stand in a text, so what is not plain is shown in hex. */
@@ -130,37 +129,46 @@ static void tell_text(const uint8_t *text, size_t size)
         else
             printf("\\x%02x", text[i]);
     }
-    printf("\"\n");
+    printf("\"");
 }
 
+/* Behind what comes from an option stands its field. Without a default the compiler tells of a status that was left out. */
 static void tell_answer(const dhcpopt_answer *a, const char *unit)
 {
-    switch (a->status) {
+    switch ((enum dhcpopt_status)a->status) {
     case DHCPOPT_STATUS_ABSENT:
-        printf("absent\n");
+        printf("absent");
         break;
     case DHCPOPT_STATUS_UNKNOWN:
-        printf("unknown to the meter, %zu bytes at %zu\n", a->length, a->start);
+        printf("unknown to the meter, %zu bytes at %zu", a->length, a->start);
         break;
     case DHCPOPT_STATUS_REFUSED:
-        tell_refusal(a->refusal, a->place);
+        tell_refusal("refused", a->refusal, a->place);
+        break;
+    case DHCPOPT_STATUS_BROKEN:
+        tell_refusal("broken", a->refusal, a->place);
         break;
     case DHCPOPT_STATUS_NUMBER:
-        printf("%" PRId64 "%s\n", a->number, unit);
+        printf("%" PRId64 "%s", a->number, unit);
         break;
-    default: /* a part */
+    case DHCPOPT_STATUS_PART:
         if (a->kind == DHCPOPT_KIND_TEXT)
             tell_text(message + a->start, a->length);
         else
             tell_addresses(message + a->start, a->length);
+        break;
     }
+    if (a->field != DHCPOPT_FIELD_NONE)
+        printf(", in %s", dhcpopt_field_name(a->field));
+    printf("\n");
 }
 
 static int read_settings(size_t size, dhcpopt_known known)
 {
     dhcpopt_codes codes = dhcpopt_present(message, size);
     if (codes.refusal != DHCPOPT_NOT_REFUSED) {
-        tell_refusal(codes.refusal, codes.place);
+        tell_refusal("refused", codes.refusal, codes.place);
+        printf("\n");
         return REFUSED;
     }
     printf("accepted: %zu bytes, %" PRIu32 " options\n", size, codes.count);
@@ -169,7 +177,7 @@ static int read_settings(size_t size, dhcpopt_known known)
         dhcpopt_answer a = dhcpopt_lookup_known(message, size, known, SETTINGS[i].code);
         printf("%s (%d): ", SETTINGS[i].name, SETTINGS[i].code);
         tell_answer(&a, SETTINGS[i].unit);
-        if (a.status == DHCPOPT_STATUS_REFUSED)
+        if (a.status == DHCPOPT_STATUS_REFUSED || a.status == DHCPOPT_STATUS_BROKEN)
             result = REFUSED;
     }
     return result;
@@ -208,7 +216,8 @@ static int offer(size_t sheet_size, size_t size, uint8_t permission)
     begin_reply();
     dhcpopt_wrote w = dhcpopt_write(sheet, sheet_size, message, size, permission);
     if (w.refusal != DHCPOPT_NOT_REFUSED) {
-        tell_refusal(w.refusal, w.place);
+        tell_refusal("refused", w.refusal, w.place);
+        printf("\n");
         return REFUSED;
     }
     printf("plan %" PRIu32 ": %s\n", w.plan, PLANS[w.plan]);

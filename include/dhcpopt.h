@@ -22,8 +22,10 @@
 /*
  * The version of this header: 100 * major + minor. The major number grows where a program must change (a call, a struct, the meaning
  * of an answer), the minor one where calls or names are added. The archives carry no version: take header and archives from one state.
+ * 2.0: a lookup's answer says which field it comes from, and a broken option has a status of its own. docs/C-API.md, 'What changed in
+ * version 2', says what to do.
  */
-#define DHCPOPT_VERSION_MAJOR 1
+#define DHCPOPT_VERSION_MAJOR 2
 #define DHCPOPT_VERSION_MINOR 0
 #define DHCPOPT_VERSION (100 * DHCPOPT_VERSION_MAJOR + DHCPOPT_VERSION_MINOR)
 
@@ -35,8 +37,8 @@ extern "C" {
 #endif
 
 /*
- * The members of the structs are uint32_t, so that their size is certain. A switch over a cast, such as (enum dhcpopt_kind)a.kind, lets
- * the compiler tell of a case that was left out.
+ * What has a name here is a uint32_t in the structs, so that its size is certain. A switch over a cast, such as (enum dhcpopt_kind)a.kind,
+ * lets the compiler tell of a case that was left out. Bytes between members are left unset: compare members, not bytes.
  */
 
 /* Where the fields of a message stand. The options field goes on to the message's end. */
@@ -58,13 +60,25 @@ enum dhcpopt_limit {
     DHCPOPT_LONGEST_SHEET = 4096 /* that dhcpopt_write takes. The records of a message are always shorter */
 };
 
-/* What a lookup found. */
+/*
+ * What a lookup found, and after the colon what the answer then gives. From an option, which is every status but ABSENT and REFUSED, it
+ * also gives where that option stands: field, offset and start.
+ */
 enum dhcpopt_status {
     DHCPOPT_STATUS_ABSENT = 0,
-    DHCPOPT_STATUS_UNKNOWN = 1, /* the code is not in the known set, or has no kind: start and length of its data */
-    DHCPOPT_STATUS_REFUSED = 2, /* refusal and place */
+    DHCPOPT_STATUS_UNKNOWN = 1, /* the code is not in the known set, or has no kind: length of its data */
+    DHCPOPT_STATUS_REFUSED = 2, /* the message, or the code asked for, is refused: refusal (1 to 7, 10) and place */
     DHCPOPT_STATUS_NUMBER = 3,  /* kind and number */
-    DHCPOPT_STATUS_PART = 4     /* kind, and start and length of its bytes in the message */
+    DHCPOPT_STATUS_PART = 4,    /* kind, and length of its bytes, which begin at start */
+    DHCPOPT_STATUS_BROKEN = 5   /* length or value of this option is wrong: refusal (8 or 9), and place, that of its code byte */
+};
+
+/* The field of the message that holds an option's code byte. */
+enum dhcpopt_field {
+    DHCPOPT_FIELD_NONE = 0, /* the answer is from no option */
+    DHCPOPT_FIELD_OPTIONS = 1,
+    DHCPOPT_FIELD_FILE = 2,
+    DHCPOPT_FIELD_SNAME = 3
 };
 
 /* The kind of an option. Behind each: whether a lookup gives a number or a part. */
@@ -84,8 +98,8 @@ enum dhcpopt_kind {
 };
 
 /*
- * Why a call is refused, and after the colon what its place then is.
- * Reading gives 1 to 11, and 8 and 9 only from the lookup. Writing gives 1, 2 and 7 to 16.
+ * Why a call is refused, and after the colon what its place then is. Reading gives 1 to 7, 10 and 11; writing gives 1, 2 and 7 to 16.
+ * In reading 8 and 9 refuse nothing: they say why an option is broken, in a lookup's answer of DHCPOPT_STATUS_BROKEN.
  */
 enum dhcpopt_refusal {
     DHCPOPT_NOT_REFUSED = 0,
@@ -115,14 +129,16 @@ enum dhcpopt_overload {
     DHCPOPT_OVERLOAD_BOTH = 3 /* as a permission: either or both */
 };
 
-/* A lookup's answer. status says which members it gives. Bytes between members are left unset: compare members, not bytes. */
+/* A lookup's answer. status says which members it gives. */
 typedef struct {
     uint32_t status;  /* DHCPOPT_STATUS_* */
     uint32_t kind;    /* DHCPOPT_KIND_* */
     uint32_t refusal; /* DHCPOPT_REFUSED_* */
+    uint32_t field;   /* DHCPOPT_FIELD_*: the field that holds the code byte */
     int64_t number;
-    size_t place;
-    size_t start;
+    size_t place;  /* of a refusal, or of the code byte of a broken option */
+    size_t offset; /* of the code byte in its field */
+    size_t start;  /* of the data in the message: the field's first byte + offset + 2, at length 0 too */
     size_t length;
 } dhcpopt_answer;
 
@@ -166,13 +182,14 @@ typedef struct {
  * Looks up a code. k0 to k3 are the set of known codes: code c is bit c % 64 of word c / 64.
  * The set never decides whether the message is accepted.
  * Refused, in this order: 10 at 0; 1 or 2 at the length; 3 at 236; the first fault of the message in reading order (options, file,
- * sname): 4, 6 or 7 at its code byte, or 5 at the first byte after the field; then 8 or 9 at the code byte of a known code.
+ * sname): 4, 6 or 7 at its code byte, or 5 at the first byte after the field. A known code that is there may then be broken: 8 or else 9,
+ * at its code byte. That refuses neither the message nor the lookup of any other code.
  */
 dhcpopt_answer dhcpopt_lookup(const uint8_t *message, size_t size, uint64_t k0, uint64_t k1, uint64_t k2, uint64_t k3, uint8_t code);
 
 /*
- * All data bytes of a code, whatever its kind, also where the lookup refuses it by 8 or 9.
- * Empty where the code is absent or has no data, and on any other refusal: dhcpopt_lookup names the cause.
+ * All data bytes of a code, whatever its kind, also where the lookup finds it broken.
+ * Empty where the code is absent or has no data, and on a refusal: dhcpopt_lookup names the cause.
  */
 dhcpopt_extent dhcpopt_data(const uint8_t *message, size_t size, uint8_t code);
 
@@ -232,6 +249,12 @@ static inline dhcpopt_extent dhcpopt_text_known(const uint8_t *message, size_t s
     return dhcpopt_text(message, size, known.words[0], known.words[1], known.words[2], known.words[3], code);
 }
 
+/* The name of a field, as the listing has it; that of no field is empty. */
+static inline const char *dhcpopt_field_name(uint32_t field)
+{
+    return field == DHCPOPT_FIELD_OPTIONS ? "options" : field == DHCPOPT_FIELD_FILE ? "file" : field == DHCPOPT_FIELD_SNAME ? "sname" : "";
+}
+
 /* The archives are compiled for these layouts. */
 #ifdef __cplusplus
 #define DHCPOPT_ASSERT(what) static_assert(what, #what)
@@ -244,14 +267,16 @@ static inline dhcpopt_extent dhcpopt_text_known(const uint8_t *message, size_t s
     DHCPOPT_ASSERT(offsetof(type, member) == (at) && DHCPOPT_SIZE(type, member) == (bytes))
 
 DHCPOPT_ASSERT(sizeof(void *) == 8 && sizeof(size_t) == 8);
-DHCPOPT_ASSERT(sizeof(dhcpopt_answer) == 48);
+DHCPOPT_ASSERT(sizeof(dhcpopt_answer) == 56);
 DHCPOPT_MEMBER(dhcpopt_answer, status, 0, 4);
 DHCPOPT_MEMBER(dhcpopt_answer, kind, 4, 4);
 DHCPOPT_MEMBER(dhcpopt_answer, refusal, 8, 4);
+DHCPOPT_MEMBER(dhcpopt_answer, field, 12, 4);
 DHCPOPT_MEMBER(dhcpopt_answer, number, 16, 8);
 DHCPOPT_MEMBER(dhcpopt_answer, place, 24, 8);
-DHCPOPT_MEMBER(dhcpopt_answer, start, 32, 8);
-DHCPOPT_MEMBER(dhcpopt_answer, length, 40, 8);
+DHCPOPT_MEMBER(dhcpopt_answer, offset, 32, 8);
+DHCPOPT_MEMBER(dhcpopt_answer, start, 40, 8);
+DHCPOPT_MEMBER(dhcpopt_answer, length, 48, 8);
 DHCPOPT_ASSERT(sizeof(dhcpopt_extent) == 16);
 DHCPOPT_MEMBER(dhcpopt_extent, start, 0, 8);
 DHCPOPT_MEMBER(dhcpopt_extent, length, 8, 8);

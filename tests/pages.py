@@ -1,7 +1,7 @@
 #!/usr/bin/env python3
 """Holds what a check can hold of the pages: the tables of docs/RULES.md and docs/C-API.md against the table of tests/reader.py and against the
-header, the keys of the rules against the definitions that name them, the decisions against those who cite them, and counts in prose
-against what is counted. The last line is 'N checked, M wrong'.
+header, the keys of the rules against the definitions that name them, the requests that landed against their notes, the decisions against
+those who cite them, and counts in prose against what is counted. The last line is 'N checked, M wrong'.
 """
 import re
 import shutil
@@ -147,6 +147,8 @@ def of_api(named):
     header = page("include/dhcpopt.h")
     for number, name, *_ in rows(text, "No.", "`DHCPOPT_REFUSED_`", "When", "Place", "Calls"):
         check(re.search(rf"DHCPOPT_REFUSED_{name.strip('`')} = {number},? ", header), f"docs/C-API.md: refusal {number}")
+    statuses = [(int(number), name.strip("`")) for number, name, _ in rows(text, "Status", "`DHCPOPT_STATUS_`", "Members")]
+    check(statuses == sorted((int(n), name) for name, n in re.findall(r"DHCPOPT_STATUS_(\w+) = (\d)", header)), "docs/C-API.md: the statuses")
 
 
 def keys(rules):
@@ -162,6 +164,20 @@ def keys(rules):
     return used
 
 
+def landed(rules):
+    """Each request that has landed has a note, and the rules that it added or changed are there; each names the request."""
+    listed = {}
+    for request, _, added, changed in rows(rules, "Request", "What it asks for", "Rules added", "Rules changed"):
+        listed[request] = re.findall(r"[A-Z]\d+", added + ", " + changed)
+    notes = {path.stem for path in (ROOT / "docs/changes").glob("*.md")}
+    check(set(listed) == notes, f"docs/RULES.md: landed {sorted(listed)}, with a note {sorted(notes)}")
+    for request, named in listed.items():
+        for key in named:
+            rule = re.search(rf"^\| {key} \|.*(?:\n\| \|.*)*", rules, flags=re.M)
+            check(rule, f"docs/RULES.md: request {request} names {key}, which is no rule")
+            check(rule and (key[0] == "B" or f"equest {request}" in rule.group()), f"docs/RULES.md: {key} does not name request {request}")
+
+
 def decisions():
     """Entries stand in order of their numbers, the index names each, and whoever cites one cites one that is there."""
     text = page("docs/DECISIONS.md")
@@ -169,7 +185,7 @@ def decisions():
     check(numbers == list(range(1, len(numbers) + 1)), "docs/DECISIONS.md: the entries are not 1, 2, 3 ... in order")
     index = [n for _, cell in rows(text, "Topic", "Entries") for n in codes_in(cell)]
     check(sorted(index) == numbers, "docs/DECISIONS.md: the index does not name each entry once")
-    for name in ["README.md", "CONTRIBUTING.md"] + [f"docs/{p.name}" for p in sorted((ROOT / "docs").glob("*.md"))]:
+    for name in ["README.md", "CONTRIBUTING.md"] + [str(p.relative_to(ROOT)) for p in sorted((ROOT / "docs").rglob("*.md"))]:
         for n in re.findall(r"\b(?:[Dd]ecisions?|entry|entries|DECISIONS\.md`,) (\d+)\b", page(name)):
             check(int(n) in numbers, f"{name}: decision {n} is cited and not there")
 
@@ -205,6 +221,7 @@ def toolchain():
 rules_text, names = of_rules()
 of_api(names)
 keys(rules_text)
+landed(rules_text)
 decisions()
 counts()
 instructions()

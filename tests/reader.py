@@ -1,4 +1,6 @@
-"""A reader of messages of its own, written from document 01 alone."""
+"""A reader of messages of its own, written from document 01 and request 01 of document 02 alone."""
+
+from typing import NamedTuple
 
 # The kinds as document 01 lists them: name, codes, which lengths are right, which data is right.
 KINDS = [
@@ -37,8 +39,21 @@ class Refused(Exception):
     pass
 
 
-def walk(m, first, end, met):
-    """Add the options of the field from first to end to met (code: place), in order."""
+class Option(NamedTuple):
+    """Where an option was met: the field that holds its code byte, that byte's offset in it, and its place in the message."""
+    field: str
+    offset: int
+    at: int
+    start: int
+    data: bytes
+
+
+FIELDS = {"options": (240, None), "file": (108, 236), "sname": (44, 108)}  # first byte, first byte after
+
+
+def walk(m, field, met):
+    """Add the options of a field to met (code: Option), in order."""
+    first, end = FIELDS[field][0], FIELDS[field][1] or len(m)
     i = first
     while i < end:
         code = m[i]
@@ -49,11 +64,11 @@ def walk(m, first, end, met):
             continue
         if i + 1 == end or i + 2 + m[i + 1] > end:
             raise Refused(4, i)
-        if code == 52 and (first != 240 or m[i + 1] != 1 or m[i + 2] not in (1, 2, 3)):
+        if code == 52 and (field != "options" or m[i + 1] != 1 or m[i + 2] not in (1, 2, 3)):
             raise Refused(6, i)
         if code in met:
             raise Refused(7, i)
-        met[code] = i
+        met[code] = Option(field, i - first, i, i + 2, m[i + 2:i + 2 + m[i + 1]])
         i += 2 + m[i + 1]
     raise Refused(5, end)
 
@@ -66,10 +81,10 @@ def read(m):
     if list(m[236:240]) != [99, 130, 83, 99]:
         raise Refused(3, 236)
     met = {}
-    walk(m, 240, len(m), met)
-    overload = m[met[52] + 2] if 52 in met else None
+    walk(m, "options", met)
+    overload = met[52].data[0] if 52 in met else None
     if overload in (1, 3):
-        walk(m, 108, 236, met)
+        walk(m, "file", met)
     if overload in (2, 3):
-        walk(m, 44, 108, met)
+        walk(m, "sname", met)
     return met

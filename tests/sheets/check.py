@@ -99,7 +99,7 @@ def write(sheet, m, permission):
 def back(m):
     """The records of a message, and the number of its options."""
     met = read(m)
-    records = b"".join(bytes((code, 0)) + m[at + 1:at + 2 + m[at + 1]] for code, at in met.items() if code != 52)
+    records = b"".join(bytes((code, 0, len(option.data))) + option.data for code, option in met.items() if code != 52)
     return records, len(met)
 
 

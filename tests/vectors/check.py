@@ -1,5 +1,5 @@
 #!/usr/bin/env python3
-"""Read crates/vectors/stdin by document 01 anew and hold every line of crates/vectors/stdout to it."""
+"""Read crates/vectors/stdin by document 01 and request 01 anew, and hold every line of crates/vectors/stdout to it."""
 
 import struct
 import sys
@@ -11,25 +11,31 @@ from reader import Refused, read, row_of
 
 OUT = HERE.parent.parent / "crates" / "vectors"
 
+EVERY = range(1, 255)
 FORMAT = {"address": ">I", "flag": "B", "octet": "B", "number16": ">H", "unsigned32": ">I", "signed32": ">i"}
 
 
-def look_up(m, code, at):
-    start, data = at + 2, m[at + 2:at + 2 + m[at + 1]]
+def content(known, code, at, data):
+    """What is said of a code that is there, wherever it stands."""
     row = row_of(code)
-    if row is None:
-        return f"unknown {start} {len(data)}"
+    if row is None or code not in known:
+        return f"unknown {len(data)}"
     kind, _, length_right, data_right = row
     if not length_right(code, len(data)):
-        return f"refused 8 {at}"
+        return f"broken 8 {at}"
     if data_right and not data_right(code, data):
-        return f"refused 9 {at}"
+        return f"broken 9 {at}"
     if kind in FORMAT:
         return f"{kind} {struct.unpack(FORMAT[kind], data)[0]}"
     length = len(data)
     while kind == "text" and length and data[length - 1] == 0:
         length -= 1
-    return f"{kind} {start} {length}"
+    return f"{kind} {length}"
+
+
+def look_up(known, code, option):
+    field, offset, at, start, data = option
+    return f"{content(known, code, at, data)} {field} {offset} {start}"
 
 
 def printed(m):
@@ -38,18 +44,18 @@ def printed(m):
     except Refused as fault:
         return "refused {} {}\n-\n".format(*fault.args)
     out = f"accepted {len(met)}\n"
-    for code, at in met.items():
-        out += f"{code} {at + 2} {m[at + 1]}\n"
+    for code, option in met.items():
+        out += f"{code} {option.start} {len(option.data)} {option.field}\n"
     marks = sum(1 << code for code in met)
     words = struct.unpack("<4Q", marks.to_bytes(32, "little"))
     lowest = next((code for code in range(1, 255) if code in met), 0)
     out += "present {} {} {} {} count {} lowest {}\n".format(*words, bin(marks).count("1"), lowest)
-    for code, at in met.items():
-        out += f"{code} {look_up(m, code, at)}\n"
+    for code, option in met.items():
+        out += f"{code} {look_up(EVERY, code, option)}\n"
     sheet = bytearray()
-    for code, at in met.items():
+    for code, option in met.items():
         if code != 52:
-            sheet += struct.pack(">BH", code, m[at + 1]) + m[at + 2:at + 2 + m[at + 1]]
+            sheet += struct.pack(">BH", code, len(option.data)) + option.data
     total = 0
     for byte in sheet:
         total = (total * 31 + byte) % 1000003
@@ -72,26 +78,24 @@ def answer(m, known, code):
         met = read(m)
     except Refused as fault:
         return "refused {} {}".format(*fault.args)
-    if code not in met:
-        return "absent"
-    at = met[code]
-    return look_up(m, code, at) if code in known else f"unknown {at + 2} {m[at + 1]}"
+    return look_up(known, code, met[code]) if code in met else "absent"
 
 
 def data(m, code):
     """The bytes of a code with their place; not a refusal but an empty part where there are none."""
-    words = answer(m, (), code).split()
-    return place_of(m, words[1:]) if words[0] == "unknown" else "0 0"
+    return part(m, answer(m, (), code), "unknown")
 
 
 def text(m, known, code):
-    words = answer(m, known, code).split()
-    return place_of(m, words[1:]) if words[0] == "text" else "0 0"
+    return part(m, answer(m, known, code), "text")
 
 
-def place_of(m, words):
-    start, length = map(int, words)
-    return " ".join(str(n) for n in (start, length, *m[start:start + length])) if length else "0 0"
+def part(m, answer, wanted):
+    words = answer.split()
+    if words[0] != wanted or words[1] == "0":
+        return "0 0"
+    start, length = int(words[4]), int(words[1])
+    return " ".join(str(n) for n in (start, length, *m[start:start + length]))
 
 
 def steps(m, code):
@@ -100,19 +104,19 @@ def steps(m, code):
 
 
 def extra():
-    every, m, zeros = range(1, 255), extra_message(), bytes(240)
+    m, zeros = extra_message(), bytes(240)
     lines = ["extra"]
-    for known, codes in ((every, (0, 255, 50)), ((), (0, 12, 50)), ((12,), (12, 3, 53, 120, 51))):
+    for known, codes in ((EVERY, (0, 255, 50)), ((), (0, 12, 50)), ((12,), (12, 3, 53, 120, 51))):
         lines += [f"{code} {answer(m, known, code)}" for code in codes]
     lines += [f"data {code} {data(m, code)}" for code in (12, 53, 120, 52, 51, 50, 0, 255)]
-    lines += [f"text {code} {text(m, every, code)}" for code in (12, 15, 53, 50, 0)]
+    lines += [f"text {code} {text(m, EVERY, code)}" for code in (12, 15, 53, 50, 0)]
     lines += [f"text 12 {text(m, (), 12)}"]
     lines += [f"walk {code}{steps(m, code)}" for code in (3, 4, 6, 50)]
     records = printed(m).splitlines()[-2]
     needed = int(records.split()[1])
     lines += [records, f"records refused 11 {needed - 1}"]
-    lines += [f"{code} {answer(zeros, every, code)}" for code in (12, 0)]
-    lines += [f"data 12 {data(zeros, 12)}", f"text 12 {text(zeros, every, 12)}", "present 0 0 0 0 count 0 lowest 0"]
+    lines += [f"{code} {answer(zeros, EVERY, code)}" for code in (12, 0)]
+    lines += [f"data 12 {data(zeros, 12)}", f"text 12 {text(zeros, EVERY, 12)}", "present 0 0 0 0 count 0 lowest 0"]
     lines += [f"records {printed(zeros).splitlines()[0]}"]
     lines += [f"steps {code}{steps(m, code)}" for code in (3, 4, 6, 50)]
     return "".join(line + "\n" for line in lines)

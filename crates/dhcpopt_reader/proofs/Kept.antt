@@ -1,5 +1,5 @@
 -- From what C gets, each answer can be had back. Assumes nothing.
-use mathlib.Core.Path.{_≡_, refl, ap}
+use mathlib.Core.Path.{_≡_, refl, ap, _∙_}
 use mathlib.Core.Bool.{Bool, true, false, cond}
 use mathlib.Core.List.{List, _++_}
 use Prim.Native.Nat.{ℕ, _≤_}
@@ -7,20 +7,36 @@ use native.Mathlib.Omega.{arith}
 use lib.Dec.{ltb}
 use lib.ListN.{length, drop}
 use borrow.Author.Tests.{ne-eqb}
-use Rattle.options.specs.Kinds.{Kind}
+use Rattle.options.specs.Message.{Field, options, file, sname}
+use Rattle.options.specs.Kinds.{Kind, broken, number, part}
 use Rattle.options.specs.Reading.{Reading, accepted, refused, readMessage, items}
 use Rattle.options.specs.Answers as asked
-use Rattle.kinds.specs.Numbers.{numberOf}
+use Rattle.kinds.specs.Numbers.{numberOf, kindAt}
 use Rattle.kinds.proofs.Numbering.{named}
+use Rattle.present.specs.Marked.{placeOf}
 use Rattle.present.proofs.Kept.{refused-by-a-number, verdict-back}
-use Rattle.dhcpopt_reader.specs.Plain.{plainFilled, answerFrom, AnswerKept, ExtentKept, AddressKept, DoneStays, CodesKept, givenFrom, FilledKept}
+use Rattle.dhcpopt_reader.specs.Plain.{VerdictKept, NoOriginTold, NeedlessMembers, NoPlaceNoSize, fieldNumber, plainFilled, fieldAt, AnswerKept, PlacesKept, ExtentKept, AddressKept, DoneStays, CodesKept, givenFrom, FilledKept}
+
+field-kept : (fd : Field) → fieldAt (fieldNumber fd) ≡ fd
+field-kept options = refl
+field-kept file = refl
+field-kept sname = refl
+
+origin-kept : (g : asked.Origin) (x : asked.Content) → asked.Found (record { field = fieldAt (fieldNumber (g .field)); offset = g .offset }) x ≡ asked.Found g x
+origin-kept g x = ap (λ (fd : Field). asked.Found (record { field = fd; offset = g .offset }) x) (field-kept (g .field))
 
 pub answer-kept : AnswerKept
 answer-kept asked.Absent = refl
-answer-kept (asked.Unknown s n) = refl
 answer-kept (asked.Refused n p) = refl
-answer-kept (asked.Number k z) = ap (λ (x : Kind). asked.Number x z) (named k)
-answer-kept (asked.Part k s n) = ap (λ (x : Kind). asked.Part x s n) (named k)
+answer-kept (asked.Found g (asked.unknown n)) = origin-kept g (asked.unknown n)
+answer-kept (asked.Found g (asked.known (broken n))) = origin-kept g (asked.known (broken n))
+answer-kept (asked.Found g (asked.known (number k z))) =
+    origin-kept g (asked.known (number (kindAt (numberOf k)) z)) ∙ ap (λ (x : Kind). asked.Found g (asked.known (number x z))) (named k)
+answer-kept (asked.Found g (asked.known (part k n))) =
+    origin-kept g (asked.known (part (kindAt (numberOf k)) n)) ∙ ap (λ (x : Kind). asked.Found g (asked.known (part x n))) (named k)
+
+pub places-kept : PlacesKept
+places-kept g x = record { start-told = refl; broken-told = λ n e. rw e }
 
 pub extent-kept : ExtentKept
 extent-kept e = refl
@@ -58,3 +74,25 @@ filled-in m old (accepted os) e =
 pub filled-kept : FilledKept
 unfolding asked.records
 filled-kept m old = filled-in m old (readMessage m) refl
+
+pub verdict-kept : VerdictKept
+verdict-kept asked.Absent = record { refusal-told = refl; place-told = refl }
+verdict-kept (asked.Refused n p) = record { refusal-told = refl; place-told = refl }
+verdict-kept (asked.Found g (asked.unknown n)) = record { refusal-told = refl; place-told = refl }
+verdict-kept (asked.Found g (asked.known (broken n))) = record { refusal-told = refl; place-told = refl }
+verdict-kept (asked.Found g (asked.known (number k z))) = record { refusal-told = refl; place-told = refl }
+verdict-kept (asked.Found g (asked.known (part k n))) = record { refusal-told = refl; place-told = refl }
+
+pub no-origin-told : NoOriginTold
+no-origin-told = ((refl, refl, refl), λ n p. (refl, refl, refl))
+
+pub needless-members : NeedlessMembers
+needless-members asked.Absent = record { no-kind = λ a b. refl; no-number = λ a. refl; no-length = λ a b. refl }
+needless-members (asked.Refused n p) = record { no-kind = λ a b. refl; no-number = λ a. refl; no-length = λ a b. refl }
+needless-members (asked.Found g (asked.unknown n)) = record { no-kind = λ a b. refl; no-number = λ a. refl; no-length = λ a b. absurd (a refl) }
+needless-members (asked.Found g (asked.known (broken n))) = record { no-kind = λ a b. refl; no-number = λ a. refl; no-length = λ a b. refl }
+needless-members (asked.Found g (asked.known (number k z))) = record { no-kind = λ a b. absurd (a refl); no-number = λ a. absurd (a refl); no-length = λ a b. refl }
+needless-members (asked.Found g (asked.known (part k n))) = record { no-kind = λ a b. absurd (b refl); no-number = λ a. refl; no-length = λ a b. absurd (b refl) }
+
+pub no-place-no-size : NoPlaceNoSize
+no-place-no-size n p m = (refl, refl, λ e. ap placeOf e)

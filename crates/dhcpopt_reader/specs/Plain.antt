@@ -1,33 +1,75 @@
 -- THE ANSWERS AS PLAIN NUMBERS, FOR C: each case with its values. Every contract of this crate's calls rests on this file. Assumes nothing.
 use mathlib.Core.Path.{_≡_}
-use mathlib.Core.Bool.{cond}
 use mathlib.Core.List.{List}
-use Prim.Native.Nat.{ℕ}
+use mathlib.Core.Bool.{cond}
+use Prim.Native.Nat.{ℕ, _+_, _≤_}
 use lib.Dec.{eqb}
 use lib.IntN.{ℤ, pos}
-use Rattle.options.specs.Kinds.{Kind}
+use Rattle.options.specs.Message.{Field, options, file, sname, start}
+use Rattle.options.specs.Kinds.{broken, number, part}
 use Rattle.options.specs.Answers as asked
 use Rattle.kinds.specs.Numbers.{numberOf, kindAt}
 use Rattle.present.specs.Marked.{numberOf as refusalOf, placeOf, verdictFrom}
 use Rattle.dhcpopt_reader.specs.declared.PlainAnswer.{PlainAnswer}
+use Rattle.dhcpopt_reader.specs.declared.PlainContent.{PlainContent}
 use Rattle.dhcpopt_reader.specs.declared.PlainExtent.{PlainExtent}
 use Rattle.dhcpopt_reader.specs.declared.PlainAddress.{PlainAddress}
 use Rattle.dhcpopt_reader.specs.declared.PlainCodes.{PlainCodes}
 use Rattle.dhcpopt_reader.specs.declared.PlainFilled.{PlainFilled}
 
-abbrev pub plainNumber : ℕ → ℤ → PlainAnswer
-plainNumber k z = record { status = 3; kind = k; refusal = 0; number = z; place = 0; start = 0; length = 0 }
+-- ---- The lookup's answer
 
-abbrev pub plainPart : ℕ → ℕ → ℕ → ℕ → PlainAnswer
-plainPart status k s n = record { status = status; kind = k; refusal = 0; number = pos 0; place = 0; start = s; length = n }
+abbrev pub plainNumber : ℕ → ℤ → PlainContent
+plainNumber k z = record { status = 3; kind = k; refusal = 0; number = z; length = 0 }
 
--- status 0 absent, 1 unknown, 2 refused, 3 a kind with its number, 4 a kind with its part; the kinds are numbered 1 to 11
+abbrev pub plainPart : ℕ → ℕ → ℕ → PlainContent
+plainPart status k n = record { status = status; kind = k; refusal = 0; number = pos 0; length = n }
+
+-- status 1 unknown, 3 a kind with its number, 4 a kind with its part, 5 broken; the kinds are numbered 1 to 11
+abbrev pub plainContent : asked.Content → PlainContent
+plainContent (asked.unknown n) = plainPart 1 0 n
+plainContent (asked.known (broken n)) = record { status = 5; kind = 0; refusal = n; number = pos 0; length = 0 }
+plainContent (asked.known (number k z)) = plainNumber (numberOf k) z
+plainContent (asked.known (part k n)) = plainPart 4 (numberOf k) n
+
+-- "the field that holds its code byte (options, file, sname)" (request 01); 0 is none
+abbrev pub fieldNumber : Field → ℕ
+fieldNumber options = 1
+fieldNumber file = 2
+fieldNumber sname = 3
+
+-- an answer with its origin; of what is broken the place is its code byte's
+abbrev pub plainFound : asked.Origin → PlainContent → PlainAnswer
+plainFound g x =
+    record {
+      status = x .status;
+      kind = x .kind;
+      refusal = x .refusal;
+      field = fieldNumber (g .field);
+      number = x .number;
+      place = cond (eqb (x .status) 5) (asked.codePlace g) 0;
+      offset = g .offset;
+      start = asked.startOf g;
+      length = x .length;
+    }
+
+-- status 0 absent, 2 refused
+abbrev pub plainRefusal : ℕ → ℕ → ℕ → PlainAnswer
+plainRefusal status n p =
+    record { status = status; kind = 0; refusal = n; field = 0; number = pos 0; place = p; offset = 0; start = 0; length = 0 }
+
 abbrev pub plainAnswer : asked.Answer → PlainAnswer
-plainAnswer asked.Absent = plainPart 0 0 0 0
-plainAnswer (asked.Unknown s n) = plainPart 1 0 s n
-plainAnswer (asked.Refused n p) = record { status = 2; kind = 0; refusal = n; number = pos 0; place = p; start = 0; length = 0 }
-plainAnswer (asked.Number k z) = plainNumber (numberOf k) z
-plainAnswer (asked.Part k s n) = plainPart 4 (numberOf k) s n
+plainAnswer asked.Absent = plainRefusal 0 0 0
+plainAnswer (asked.Refused n p) = plainRefusal 2 n p
+plainAnswer (asked.Found g x) = plainFound g (plainContent x)
+
+-- an origin within 64 KiB, so that its start is a number of the machine; every lookup's is
+abbrev pub Near : asked.Answer → Type 0
+Near asked.Absent = Unit {0}
+Near (asked.Refused n p) = Unit {0}
+Near (asked.Found g x) = g .offset ≤ 65536
+
+-- ---- The other answers
 
 abbrev pub plainExtent : asked.Extent → PlainExtent
 plainExtent e = record { start = e .start; length = e .size }
@@ -48,15 +90,34 @@ plainFilled (asked.declined n p) = record { refusal = n; size = 0; place = p }
 
 -- ---- Nothing is lost: from what C gets, the answer can be had back
 
+-- the field with a number
+abbrev pub fieldAt : ℕ → Field
+fieldAt n = cond (eqb n 1) options (cond (eqb n 2) file sname)
+
+abbrev pub originFrom : PlainAnswer → asked.Origin
+originFrom a = record { field = fieldAt (a .field); offset = a .offset }
+
+abbrev pub contentFrom : PlainAnswer → asked.Content
+contentFrom a =
+    cond (eqb (a .status) 1) (asked.unknown (a .length))
+    (cond (eqb (a .status) 3) (asked.known (number (kindAt (a .kind)) (a .number)))
+    (cond (eqb (a .status) 4) (asked.known (part (kindAt (a .kind)) (a .length))) (asked.known (broken (a .refusal)))))
+
 abbrev pub answerFrom : PlainAnswer → asked.Answer
 answerFrom a =
     cond (eqb (a .status) 0) asked.Absent
-    (cond (eqb (a .status) 1) (asked.Unknown (a .start) (a .length))
-    (cond (eqb (a .status) 2) (asked.Refused (a .refusal) (a .place))
-    (cond (eqb (a .status) 3) (asked.Number (kindAt (a .kind)) (a .number)) (asked.Part (kindAt (a .kind)) (a .start) (a .length)))))
+    (cond (eqb (a .status) 2) (asked.Refused (a .refusal) (a .place)) (asked.Found (originFrom a) (contentFrom a)))
 
 abbrev pub AnswerKept : Type 0
 AnswerKept = (a : asked.Answer) → answerFrom (plainAnswer a) ≡ a
+
+-- "Start always equals the field's first byte plus offset plus two, at length 0 too" (request 01), and what is broken has the place of its code byte
+pub record PlacesTold (g : asked.Origin) (x : asked.Content) : Type 0 where
+  pub start-told : plainAnswer (asked.Found g x) .start ≡ start (g .field) + g .offset + 2
+  pub broken-told : (n : ℕ) → x ≡ asked.known (broken n) → plainAnswer (asked.Found g x) .place ≡ start (g .field) + g .offset
+
+abbrev pub PlacesKept : Type 0
+PlacesKept = (g : asked.Origin) (x : asked.Content) → PlacesTold g x
 
 abbrev pub extentFrom : PlainExtent → asked.Extent
 extentFrom e = record { start = e .start; size = e .length }
@@ -87,3 +148,30 @@ givenFrom f = cond (eqb (f .refusal) 0) (asked.given (f .size)) (asked.declined 
 -- refusal 0 is no refusal's number
 abbrev pub FilledKept : Type 0
 FilledKept = (m old : List ℕ) → givenFrom (plainFilled (asked.records m old .answer)) ≡ asked.records m old .answer
+
+-- refusal and place are those of a refusal or of what is broken, and 0 and 0 elsewhere; an answer from no option has field, offset and start 0
+pub record VerdictTold (a : asked.Answer) : Type 0 where
+  pub refusal-told : plainAnswer a .refusal ≡ refusalOf (asked.verdictOf a)
+  pub place-told : plainAnswer a .place ≡ placeOf (asked.verdictOf a)
+
+abbrev pub VerdictKept : Type 0
+VerdictKept = (a : asked.Answer) → VerdictTold a
+
+abbrev pub FromNoOption : asked.Answer → Type 0
+FromNoOption a = (plainAnswer a .field ≡ 0) × (plainAnswer a .offset ≡ 0) × (plainAnswer a .start ≡ 0)
+
+abbrev pub NoOriginTold : Type 0
+NoOriginTold = FromNoOption asked.Absent × ((n p : ℕ) → FromNoOption (asked.Refused n p))
+
+-- "a member that an answer does not need is 0", by its status: kind where it is 3 or 4, number where it is 3, length where it is 1 or 4
+pub record NeedlessIsZero (a : PlainAnswer) : Type 0 where
+  pub no-kind : (a .status ≡ 3 → ⊥) → (a .status ≡ 4 → ⊥) → a .kind ≡ 0
+  pub no-number : (a .status ≡ 3 → ⊥) → a .number ≡ pos 0
+  pub no-length : (a .status ≡ 1 → ⊥) → (a .status ≡ 4 → ⊥) → a .length ≡ 0
+
+abbrev pub NeedlessMembers : Type 0
+NeedlessMembers = (a : asked.Answer) → NeedlessIsZero (plainAnswer a)
+
+-- what was given has no place; a refusal gives no byte; codes that are told have no place
+abbrev pub NoPlaceNoSize : Type 0
+NoPlaceNoSize = (n p : ℕ) (m : List ℕ) → (plainFilled (asked.given n) .place ≡ 0) × (plainFilled (asked.declined n p) .size ≡ 0) × (asked.present m .verdict ≡ asked.passed → plainCodes (asked.present m) .place ≡ 0)

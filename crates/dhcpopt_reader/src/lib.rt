@@ -1,28 +1,47 @@
 // The reader for C (document 01: "calls these on plain numbers and byte slices"): a slice is a pointer and a length, the known set four words.
 ghost use mathlib.Core.Path.{_≡_};
 ghost use mathlib.Core.List.{[], _∷_};
+ghost use mathlib.Core.Bool.{cond};
+ghost use Prim.Native.Nat.{_-_, _≤_};
+ghost use lib.Dec.{eqb};
 ghost use lib.IntN.{pos};
 ghost use Rattle.options.specs.Kinds.{kinds};
 ghost use Rattle.options.specs.CodeSet.{marked};
 ghost use Rattle.options.specs.Answers.{lookup, dataOf, textOf, addressStep, present};
-ghost use Rattle.lookup.specs.Shown.{answerOf, extentOf};
-ghost use Rattle.dhcpopt_reader.specs.Plain.{plainAnswer, plainNumber, plainPart, plainExtent, plainAddress, plainCodes, plainFilled};
+ghost use Rattle.message.specs.Fields.{fieldOf};
+ghost use Rattle.message.specs.Origins.{originOf};
+ghost use Rattle.lookup.specs.Shown.{contentOf, answerOf, extentOf};
+ghost use Rattle.dhcpopt_reader.specs.Plain.{plainNumber, plainPart, plainContent, fieldNumber, plainFound, plainRefusal, plainAnswer, Near, plainExtent, plainAddress, plainCodes, plainFilled};
 ghost use Rattle.options.specs.Answers as answers;
 ghost use Rattle.records.specs.Fill.{givenOf};
 use address::Cursor;
 use lookup::Answer;
+use lookup::Content;
 use lookup::Extent;
+use message::Field;
+use message::Origin;
 use records::Given;
 
-// status: 0 absent, 1 unknown, 2 refused, 3 a number, 4 a part. kind: 1 to 11 in the order of document 01's table.
+// status: 0 absent, 1 unknown, 2 refused, 3 a number, 4 a part, 5 broken. kind: 1 to 11 in the order of document 01's table. field: 1 options, 2 file, 3 sname.
 #[repr(C)]
 pub struct PlainAnswer {
     pub status: u32,
     pub kind: u32,
     pub refusal: u32,
+    pub field: u32,
     pub number: i64,
     pub place: usize,
+    pub offset: usize,
     pub start: usize,
+    pub length: usize,
+}
+
+// What an answer says of an option, wherever it stands.
+pub struct PlainContent {
+    pub status: u32,
+    pub kind: u32,
+    pub refusal: u32,
+    pub number: i64,
     pub length: usize,
 }
 
@@ -71,62 +90,119 @@ fn from_signed(z: i32) -> i64
     z as i64
 }
 
-fn of_number(kind: u32, number: i64) -> PlainAnswer
+fn of_number(kind: u32, number: i64) -> PlainContent
     ensures { λ r. ⌜ r ≡ plainNumber kind number ⌝ }
 {
-    PlainAnswer {
+    PlainContent {
         status: 3,
         kind,
         refusal: 0,
         number,
-        place: 0,
-        start: 0,
         length: 0,
     }
 }
 
-fn of_part(status: u32, kind: u32, start: usize, length: usize) -> PlainAnswer
-    ensures { λ r. ⌜ r ≡ plainPart status kind start length ⌝ }
+fn of_part(status: u32, kind: u32, length: usize) -> PlainContent
+    ensures { λ r. ⌜ r ≡ plainPart status kind length ⌝ }
 {
-    PlainAnswer {
+    PlainContent {
         status,
         kind,
         refusal: 0,
         number: 0,
-        place: 0,
-        start,
         length,
     }
 }
 
+fn of_content(x: Content) -> PlainContent
+    ensures { λ r. ⌜ r ≡ plainContent (contentOf x) ⌝ }
+{
+    match x {
+        Content::Unknown(n) => of_part(1, 0, n),
+        Content::Broken(number) => PlainContent {
+            status: 5,
+            kind: 0,
+            refusal: number,
+            number: 0,
+            length: 0,
+        },
+        Content::Address(n) => of_number(1, from_unsigned(n)),
+        Content::Addresses(n) => of_part(4, 2, n),
+        Content::Pairs(n) => of_part(4, 3, n),
+        Content::Flag(n) => of_number(4, from_unsigned(n as u32)),
+        Content::Octet(n) => of_number(5, from_unsigned(n as u32)),
+        Content::Number16(n) => of_number(6, from_unsigned(n as u32)),
+        Content::Numbers16(n) => of_part(4, 7, n),
+        Content::Unsigned32(n) => of_number(8, from_unsigned(n)),
+        Content::Signed32(z) => of_number(9, from_signed(z)),
+        Content::Text(n) => of_part(4, 10, n),
+        Content::Opaque(n) => of_part(4, 11, n),
+    }
+}
+
+fn field_number(field: Field) -> u32
+    ensures { λ r. ⌜ r ≡ fieldNumber (fieldOf field) ⌝ }
+{
+    match field {
+        Field::Options => 1,
+        Field::File => 2,
+        Field::Sname => 3,
+    }
+}
+
+// The place of the code byte of what is broken; any other answer gives no place.
+fn place_of(status: u32, start: usize) -> usize
+    requires { ⌜ 2 ≤ start ⌝ }
+    ensures { λ r. ⌜ r ≡ cond (eqb status 5) (start - 2) 0 ⌝ }
+{
+    if status == 5 { start - 2 } else { 0 }
+}
+
+fn of_found(origin: Origin, content: Content) -> PlainAnswer
+    requires { ⌜ origin .offset ≤ 65536 ⌝ }
+    ensures { λ r. ⌜ r ≡ plainFound (originOf origin) (plainContent (contentOf content)) ⌝ }
+{
+    let c = of_content(content);
+    let field = origin.field;
+    let start = message::base(field) + origin.offset + 2;
+    PlainAnswer {
+        status: c.status,
+        kind: c.kind,
+        refusal: c.refusal,
+        field: field_number(field),
+        number: c.number,
+        place: place_of(c.status, start),
+        offset: origin.offset,
+        start,
+        length: c.length,
+    }
+}
+
 fn of_answer(a: Answer) -> PlainAnswer
+    requires { ⌜ Near (answerOf a) ⌝ }
     ensures { λ r. ⌜ r ≡ plainAnswer (answerOf a) ⌝ }
 {
     match a {
-        Answer::Absent => of_part(0, 0, 0, 0),
-        Answer::Unknown { start, len } => of_part(1, 0, start, len),
-        Answer::Refused { number, place } => {
-            PlainAnswer {
-                status: 2,
-                kind: 0,
-                refusal: number,
-                number: 0,
-                place,
-                start: 0,
-                length: 0,
-            }
-        }
-        Answer::Address(n) => of_number(1, from_unsigned(n)),
-        Answer::Addresses { start, len } => of_part(4, 2, start, len),
-        Answer::Pairs { start, len } => of_part(4, 3, start, len),
-        Answer::Flag(n) => of_number(4, from_unsigned(n as u32)),
-        Answer::Octet(n) => of_number(5, from_unsigned(n as u32)),
-        Answer::Number16(n) => of_number(6, from_unsigned(n as u32)),
-        Answer::Numbers16 { start, len } => of_part(4, 7, start, len),
-        Answer::Unsigned32(n) => of_number(8, from_unsigned(n)),
-        Answer::Signed32(z) => of_number(9, from_signed(z)),
-        Answer::Text { start, len } => of_part(4, 10, start, len),
-        Answer::Opaque { start, len } => of_part(4, 11, start, len),
+        Answer::Absent => of_refusal(0, 0, 0),
+        Answer::Refused { number, place } => of_refusal(2, number, place),
+        Answer::Found { origin, content } => of_found(origin, content),
+    }
+}
+
+// An answer without an origin: absent, or refused.
+fn of_refusal(status: u32, number: u32, place: usize) -> PlainAnswer
+    ensures { λ r. ⌜ r ≡ plainRefusal status number place ⌝ }
+{
+    PlainAnswer {
+        status,
+        kind: 0,
+        refusal: number,
+        field: 0,
+        number: 0,
+        place,
+        offset: 0,
+        start: 0,
+        length: 0,
     }
 }
 

@@ -26,3 +26,7 @@ choiceFrom a = cond (eqb (a .refusal) 0) (Plan (a .plan)) (Refused (a .refusal) 
 abbrev pub PlainLosesNothing : Type 0
 PlainLosesNothing = (s m : List ℕ) (permission : ℕ)
     → outcomeFrom (choiceFrom (plainWrote (options.writer kinds s m permission))) (options.bufferAfter m (options.writer kinds s m permission)) ≡ options.writer kinds s m permission
+
+-- what a call does not give is 0: a place where the sheet is written, a plan where it is refused
+abbrev pub NoPlaceNoPlan : Type 0
+NoPlaceNoPlan = (p n q : ℕ) → (plainOf (Plan p) .place ≡ 0) × (plainOf (Refused n q) .plan ≡ 0)

@@ -1,4 +1,4 @@
--- No listing is longer than the buffer: a message has at most 712 options, and a line at most 14 bytes. Assumes nothing.
+-- No listing is longer than the buffer: a message has at most 712 options, and a line at most 22 bytes. Assumes nothing.
 use mathlib.Core.Path.{refl}
 use mathlib.Core.List.{List, [], _∷_, _++_}
 use mathlib.Core.Logic.{inl, inr}
@@ -16,16 +16,16 @@ use Rattle.theorems.proofs.Lengths.{start-le, field-le, message-short, few-opti
 use Rattle.text.proofs.Digits.{digits-within, digits-below}
 use Rattle.listing.proofs.Lines.{line-size, accepted-size, refused-size}
 
-line-short : (m : List ℕ) (o : Opt) → length m ≤ 1472 → Standing m o → o .item .tag < 256 → length (lineOf o) ≤ 14
+line-short : (m : List ℕ) (o : Opt) → length m ≤ 1472 → Standing m o → o .item .tag < 256 → length (lineOf o) ≤ 22
 unfolding lineOf
 line-short m o l s t =
     let f = field-le (o .field) m in
     let z = start-le (o .field) in
     let i = option-in (s .stands .option) in
     let n : ℕ = length (o .item .body) in
-    omega (arith, line-size (o .item .tag) (dataStart o) n, digits-below 2 20 (o .item .tag) (omega arith), digits-below 3 20 (dataStart o) (omega arith), digits-below 3 20 n (omega arith))
+    omega (arith, line-size (o .item .tag) (dataStart o) n (o .field), digits-below 2 20 (o .item .tag) (omega arith), digits-below 3 20 (dataStart o) (omega arith), digits-below 3 20 n (omega arith))
 
-lines-short : (m : List ℕ) (os : List Opt) → length m ≤ 1472 → ((o : Opt) → In o os → Standing m o × (o .item .tag < 256)) → length (linesOf os) ≤ 14 * length os
+lines-short : (m : List ℕ) (os : List Opt) → length m ≤ 1472 → ((o : Opt) → In o os → Standing m o × (o .item .tag < 256)) → length (linesOf os) ≤ 22 * length os
 unfolding linesOf
 lines-short m [] l f = omega arith
 lines-short m (o ∷ os) l f =

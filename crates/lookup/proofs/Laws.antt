@@ -3,15 +3,15 @@ use mathlib.Core.Path.{_≡_, refl, sym, ap, _∙_, subst}
 use mathlib.Core.Bool.{Bool, true, false, cond}
 use mathlib.Core.List.{List, [], _∷_, _++_}
 use mathlib.Core.Option.{Option, none, some}
-use Prim.Native.Nat.{ℕ, zero, suc, _+_, _-_, _%_, _≤_}
+use Prim.Native.Nat.{ℕ, zero, suc, _+_, _-_, _%_, _≤_, _<_}
 use native.Mathlib.Omega.{arith}
-use lib.Dec.{eqb}
+use lib.Dec.{eqb, leb}
 use lib.ListN.{length, getD, take, drop, length-take, length-drop}
 use lib.Seq.{getD-take, getD-drop}
-use borrow.Author.Tests.{eq-eqb, ne-eqb, eqb-true, eqb-false, le-leb}
+use borrow.Author.Tests.{eq-eqb, ne-eqb, eqb-true, eqb-false, leb-true, le-leb, lt-leb}
 use Rattle.options.specs.Message.{Field, options, file, sname, start, bytes, Opt, dataStart, place}
 use Rattle.options.specs.Reading.{Reading, refused, readMessage, find}
-use Rattle.options.specs.Kinds.{Kind, address, addresses, pairs, flag, octet, number16, numbers16, unsigned32, signed32, text, opaque, kindOf, lengthFits, valueFits, trimmed, meaning, judged, Value, broken, number, part, kinds}
+use Rattle.options.specs.Kinds.{Kind, address, addresses, pairs, flag, octet, number16, numbers16, unsigned32, signed32, text, opaque, kindOf, lengthFits, valueFits, trimmed, meaning, judged, broken, kinds}
 use Rattle.options.specs.KindClaims.{AllBytes}
 use Rattle.options.specs.Answers as asked
 use Rattle.kinds.specs.Numbers.{numberOf, kindNumber, faultOf}
@@ -19,75 +19,74 @@ use Rattle.kinds.proofs.Numbering.{fault-broken, fault-kept}
 use Rattle.theorems.proofs.Fields.{option-in}
 use Rattle.theorems.proofs.Reading.{listed-stands, listed-bytes, find-some}
 use Rattle.wire.specs.declared.Walked as flat
+use Rattle.message.specs.Origins.{originAt}
 use Rattle.message.specs.Scan.{startOf, scanOf}
 use Rattle.message.proofs.Split.{ScanAccepted, passed, scan-reads, scan-refused, scan-accepted}
-use Rattle.lookup.specs.Found.{dataAt, Within, answerAt, meantAt, foundIn, clipped, extentIn}
+use Rattle.lookup.specs.Found.{dataAt, Within, foundIn, clipped, extentIn}
 
--- what a kind makes of its data is a number or a part
-shown-meant : (k : Kind) (d : List ℕ) (s : ℕ) → meantAt (meaning k d) s ≡ answerAt s (meaning k d)
-unfolding meaning
-shown-meant address d s = refl
-shown-meant addresses d s = refl
-shown-meant pairs d s = refl
-shown-meant flag d s = refl
-shown-meant octet d s = refl
-shown-meant number16 d s = refl
-shown-meant numbers16 d s = refl
-shown-meant unsigned32 d s = refl
-shown-meant signed32 d s = refl
-shown-meant text d s = refl
-shown-meant opaque d s = refl
+-- ---- what is answered of data, by the tests that the code makes
 
--- ---- the answer for an option that was met, by the tests that the code makes
+module _ (set : ℕ → Bool) (c : ℕ) (d : List ℕ) where
+  not-known : asked.isKnown kinds set c ≡ false → asked.unknown (length d) ≡ asked.contentOf kinds set c d
+  not-known e = rw e
+
+  pub judged-no-row : kindOf c ≡ none → asked.unknown (length d) ≡ asked.contentOf kinds set c d
+  judged-no-row e = not-known (rw e (go (set c)))
+    where
+      go : (b : Bool) → cond b false false ≡ false
+      go true = refl
+      go false = refl
+
+  pub judged-unmarked : set c ≡ false → asked.unknown (length d) ≡ asked.contentOf kinds set c d
+  judged-unmarked e = not-known (rw e)
+
+  module _ (k : Kind) (r : kindOf c ≡ some k) (t : set c ≡ true) where
+    judged-known : asked.known (kinds .value c d) ≡ asked.contentOf kinds set c d
+    judged-known = rw (t, r)
+
+    pub judged-broken : (n : ℕ) → n ≡ faultOf c d → (n ≡ 0 → ⊥) → asked.known (broken n) ≡ asked.contentOf kinds set c d
+    judged-broken n f z = ap asked.known (sym (fault-broken c d n f z)) ∙ judged-known
+
+    pub judged-kept : faultOf c d ≡ 0 → asked.known (meaning k d) ≡ asked.contentOf kinds set c d
+    judged-kept f = ap asked.known (sym (fault-kept c k d r f)) ∙ judged-known
+
+-- ---- the answer for an option that was met
+
+-- the place of the code byte tells the start
+pub start-at : (s : ℕ) → 46 ≤ s → asked.startOf (originAt (s - 2)) ≡ s
+start-at s h = go (leb 240 (s - 2)) (leb 108 (s - 2)) refl refl
+  where
+    go : (a b : Bool) → leb 240 (s - 2) ≡ a → leb 108 (s - 2) ≡ b
+        → asked.startOf (cond a (record { field = options; offset = s - 2 - 240 }) (cond b (record { field = file; offset = s - 2 - 108 }) (record { field = sname; offset = s - 2 - 44 }))) ≡ s
+    go true b e f = let l = leb-true 240 (s - 2) e in omega arith
+    go false true e f = let l = leb-true 108 (s - 2) f in omega arith
+    go false false e f = omega arith
 
 module _ (m : List ℕ) (set : ℕ → Bool) (c s : ℕ) where
-  abbrev body : List ℕ
-  body = dataAt m s
-
   pub found-absent : s ≡ 0 → asked.Absent ≡ foundIn m set c s
   unfolding foundIn
   found-absent e = rw (eq-eqb s 0 e)
 
-  module _ (z : s ≡ 0 → ⊥) where
-    not-known : asked.isKnown kinds set c ≡ false → asked.Unknown s (length body) ≡ foundIn m set c s
-    unfolding foundIn
-    not-known e = rw (ne-eqb s 0 z, e)
-
-    pub found-no-row : kindOf c ≡ none → asked.Unknown s (length body) ≡ foundIn m set c s
-    found-no-row e = not-known (rw e (go (set c)))
-      where
-        go : (b : Bool) → cond b false false ≡ false
-        go true = refl
-        go false = refl
-
-    pub found-unmarked : set c ≡ false → asked.Unknown s (length body) ≡ foundIn m set c s
-    found-unmarked e = not-known (rw e)
-
-    module _ (k : Kind) (r : kindOf c ≡ some k) (t : set c ≡ true) where
-      pub found-broken : (n : ℕ) → kinds .value c body ≡ broken n → asked.Refused n (s - 2) ≡ foundIn m set c s
-      unfolding foundIn
-      found-broken n e = rw (ne-eqb s 0 z, t, r) (sym (ap (answerAt s) (rw r at e)))
-
-      pub found-kept : kinds .value c body ≡ meaning k body → meantAt (meaning k body) s ≡ foundIn m set c s
-      unfolding foundIn
-      found-kept e = rw (ne-eqb s 0 z, t, r) (shown-meant k body s ∙ sym (ap (answerAt s) (rw r at e)))
+  pub found-met : (s ≡ 0 → ⊥) → asked.Found (originAt (s - 2)) (asked.contentOf kinds set c (dataAt m s)) ≡ foundIn m set c s
+  unfolding foundIn
+  found-met z = rw (ne-eqb s 0 z)
 
 -- ---- its text, by the tests that the code makes
 
 -- no other kind has a text
-meant-else : (k : Kind) (d : List ℕ) (s : ℕ) → (numberOf k ≡ 10 → ⊥) → asked.noExtent ≡ asked.textIn (meantAt (meaning k d) s)
+meant-else : (g : asked.Origin) (k : Kind) (d : List ℕ) → (numberOf k ≡ 10 → ⊥) → asked.noExtent ≡ asked.textFound g (asked.known (meaning k d))
 unfolding meaning
-meant-else address d s z = refl
-meant-else addresses d s z = refl
-meant-else pairs d s z = refl
-meant-else flag d s z = refl
-meant-else octet d s z = refl
-meant-else number16 d s z = refl
-meant-else numbers16 d s z = refl
-meant-else unsigned32 d s z = refl
-meant-else signed32 d s z = refl
-meant-else text d s z = absurd (z refl)
-meant-else opaque d s z = refl
+meant-else g address d z = refl
+meant-else g addresses d z = refl
+meant-else g pairs d z = refl
+meant-else g flag d z = refl
+meant-else g octet d z = refl
+meant-else g number16 d z = refl
+meant-else g numbers16 d z = refl
+meant-else g unsigned32 d z = refl
+meant-else g signed32 d z = refl
+meant-else g text d z = absurd (z refl)
+meant-else g opaque d z = refl
 
 some-text : (c x : ℕ) (d : List ℕ) → kindOf c ≡ some text → faultOf c (x ∷ d) ≡ 0
 unfolding faultOf judged lengthFits valueFits meaning
@@ -107,36 +106,40 @@ module _ (m : List ℕ) (set : ℕ → Bool) (c s : ℕ) where
     abbrev data′ : List ℕ
     data′ = dataAt m s
 
+    of-content : (e : asked.Extent) → e ≡ asked.textFound (originAt (s - 2)) (asked.contentOf kinds set c data′) → e ≡ asked.textIn (foundIn m set c s)
+    of-content e q = q ∙ ap asked.textIn (found-met m set c s z)
+
     pub text-unmarked : set c ≡ false → asked.noExtent ≡ asked.textIn (foundIn m set c s)
-    text-unmarked e = ap asked.textIn (found-unmarked m set c s z e)
+    text-unmarked e = of-content asked.noExtent (ap (asked.textFound (originAt (s - 2))) (judged-unmarked set c data′ e))
 
-    pub text-broken : (k : Kind) → kindOf c ≡ some k → set c ≡ true → (n : ℕ) → n ≡ faultOf c data′ → (n ≡ 0 → ⊥) → asked.noExtent ≡ asked.textIn (foundIn m set c s)
-    text-broken k r e n f y = ap asked.textIn (found-broken m set c s z k r e n (fault-broken c data′ n f y))
+    text-broken : (k : Kind) → kindOf c ≡ some k → set c ≡ true → (faultOf c data′ ≡ 0 → ⊥) → asked.noExtent ≡ asked.textIn (foundIn m set c s)
+    text-broken k r e y = of-content asked.noExtent (ap (asked.textFound (originAt (s - 2))) (judged-broken set c data′ k r e (faultOf c data′) refl y))
 
-    kept : (k : Kind) → kindOf c ≡ some k → set c ≡ true → faultOf c data′ ≡ 0 → meantAt (meaning k data′) s ≡ foundIn m set c s
-    kept k r e f = found-kept m set c s z k r e (fault-kept c k data′ r f)
-
-    text-kept : kindOf c ≡ some text → set c ≡ true → faultOf c data′ ≡ 0 → asked.extent s (trimmed data′) ≡ asked.textIn (foundIn m set c s)
+    text-kept : 46 ≤ s → kindOf c ≡ some text → set c ≡ true → faultOf c data′ ≡ 0 → asked.extent s (trimmed data′) ≡ asked.textIn (foundIn m set c s)
     unfolding meaning
-    text-kept r e f = ap asked.textIn (kept text r e f)
+    text-kept h r e f =
+        of-content (asked.extent s (trimmed data′))
+        (ap (λ (x : ℕ). asked.extent x (trimmed data′)) (sym (start-at s h)) ∙ ap (asked.textFound (originAt (s - 2))) (judged-kept set c data′ text r e f))
 
-    pub text-found : kindOf c ≡ some text → set c ≡ true → asked.extent s (trimmed data′) ≡ asked.textIn (foundIn m set c s)
-    text-found r e = go (eqb (faultOf c data′) 0) refl
+    pub text-found : 46 ≤ s → kindOf c ≡ some text → set c ≡ true → asked.extent s (trimmed data′) ≡ asked.textIn (foundIn m set c s)
+    text-found h r e = go (eqb (faultOf c data′) 0) refl
       where
         go : (b : Bool) → eqb (faultOf c data′) 0 ≡ b → asked.extent s (trimmed data′) ≡ asked.textIn (foundIn m set c s)
-        go true q = text-kept r e (eqb-true (faultOf c data′) 0 q)
-        go false q = ap (asked.extent s) (empty-text c data′ r (eqb-false (faultOf c data′) 0 q)) ∙ text-broken text r e (faultOf c data′) refl (eqb-false (faultOf c data′) 0 q)
+        go true q = text-kept h r e (eqb-true (faultOf c data′) 0 q)
+        go false q = ap (asked.extent s) (empty-text c data′ r (eqb-false (faultOf c data′) 0 q)) ∙ text-broken text r e (eqb-false (faultOf c data′) 0 q)
 
     pub text-else : (kindNumber (kindOf c) ≡ 10 → ⊥) → asked.noExtent ≡ asked.textIn (foundIn m set c s)
     text-else y = row-of (kindOf c) refl
       where
         row-of : (x : Option Kind) → kindOf c ≡ x → asked.noExtent ≡ asked.textIn (foundIn m set c s)
-        row-of none r = ap asked.textIn (found-no-row m set c s z r)
+        row-of none r = of-content asked.noExtent (ap (asked.textFound (originAt (s - 2))) (judged-no-row set c data′ r))
         row-of (some k) r = mark (set c) refl
           where
             fault : (b : Bool) → eqb (faultOf c data′) 0 ≡ b → set c ≡ true → asked.noExtent ≡ asked.textIn (foundIn m set c s)
-            fault true q e = meant-else k data′ s (λ t. y (ap kindNumber r ∙ t)) ∙ ap asked.textIn (kept k r e (eqb-true (faultOf c data′) 0 q))
-            fault false q e = text-broken k r e (faultOf c data′) refl (eqb-false (faultOf c data′) 0 q)
+            fault true q e =
+                of-content asked.noExtent
+                (meant-else (originAt (s - 2)) k data′ (λ t. y (ap kindNumber r ∙ t)) ∙ ap (asked.textFound (originAt (s - 2))) (judged-kept set c data′ k r e (eqb-true (faultOf c data′) 0 q)))
+            fault false q e = text-broken k r e (eqb-false (faultOf c data′) 0 q)
 
             mark : (b : Bool) → set c ≡ b → asked.noExtent ≡ asked.textIn (foundIn m set c s)
             mark true e = fault (eqb (faultOf c data′) 0) refl e
@@ -164,10 +167,18 @@ length-byte fd m d after i c e l = at-field fd e l
         let p : 44 + i + 2 - 1 ≡ 44 + (i + 1) = omega arith in
         rw (p, ← getD-drop 44 m (i + 1) 0, ← getD-take 64 (drop 44 m) (i + 1) 0 (omega (arith, length-take 64 (drop 44 m)))) (second (take 64 (drop 44 m)) q)
 
-value-at : (o : Opt) (v : Value) → answerAt (dataStart o) v ≡ asked.valueAt o v
-value-at o (broken n) = ap (asked.Refused n) (let e : place o + 2 - 2 ≡ place o = omega arith in e)
-value-at o (number k z) = refl
-value-at o (part k n) = refl
+-- the origin that its place tells is its own
+origin-is : (o : Opt) (m : List ℕ) → o .offset < length (bytes (o .field) m) → originAt (dataStart o - 2) ≡ asked.originOf o
+origin-is o m h = let e : dataStart o - 2 ≡ place o = omega arith in ap originAt e ∙ at-field (o .field) (o .offset) h
+  where
+    at-field : (fd : Field) (i : ℕ) → i < length (bytes fd m) → originAt (start fd + i) ≡ record { field = fd; offset = i }
+    at-field options i l = rw (le-leb 240 (240 + i) (omega arith)) (ap (λ (k : ℕ). record { field = options; offset = k }) (let e : 240 + i - 240 ≡ i = omega arith in e))
+    at-field file i l =
+        rw (lt-leb 240 (108 + i) (omega (arith, length-take 128 (drop 108 m))), le-leb 108 (108 + i) (omega arith))
+        (ap (λ (k : ℕ). record { field = file; offset = k }) (let e : 108 + i - 108 ≡ i = omega arith in e))
+    at-field sname i l =
+        rw (lt-leb 240 (44 + i) (omega (arith, length-take 64 (drop 44 m))), lt-leb 108 (44 + i) (omega (arith, length-take 64 (drop 44 m))))
+        (ap (λ (k : ℕ). record { field = sname; offset = k }) (let e : 44 + i - 44 ≡ i = omega arith in e))
 
 some-start : (o : Opt) → dataStart o ≡ 0 → ⊥
 some-start o e = omega arith
@@ -192,8 +203,8 @@ module _ (code : ℕ) (m : List ℕ) (r : flat.Walked) (os : List Opt) (a : Scan
       go : (x : Option Opt) → find code os ≡ x → foundIn m set code (startOf x) ≡ asked.shownFound kinds set x
       go none e = refl
       go (some o) e =
-          rw (ne-eqb (dataStart o) 0 (some-start o), data-is o e, find-some code os o e .1)
-          (ap (λ (x : asked.Answer). cond (asked.isKnown kinds set (o .item .tag)) x (asked.Unknown (dataStart o) (length (o .item .body)))) (value-at o (kinds .value (o .item .tag) (o .item .body))))
+          let s = listed-stands (a .reads) o (find-some code os o e .0) .stands .option in
+          rw (ne-eqb (dataStart o) 0 (some-start o), data-is o e, find-some code os o e .1, origin-is o m (omega (arith, option-in s)))
 
   pub extent-is : extentIn m (r .start) ≡ asked.dataFound (find code os)
   extent-is = ap (extentIn m) start-is ∙ go (find code os) refl
@@ -206,6 +217,11 @@ module _ (code : ℕ) (m : List ℕ) (r : flat.Walked) (os : List Opt) (a : Scan
   pub data-within : Within m (r .start)
   data-within = subst (Within m) (sym start-is) (go (find code os) refl)
     where
+      start-le : (fd : Field) → 44 ≤ start fd
+      start-le options = omega arith
+      start-le file = omega arith
+      start-le sname = omega arith
+
       in-field : (fd : Field) (k n : ℕ) → k + 2 + n ≤ length (bytes fd m) → start fd + k + 2 + n ≤ length m
       in-field options k n h = omega (arith, length-drop 240 m)
       in-field file k n h = omega (arith, length-take 128 (drop 108 m), length-drop 108 m)
@@ -216,7 +232,7 @@ module _ (code : ℕ) (m : List ℕ) (r : flat.Walked) (os : List Opt) (a : Scan
       go (some o) e =
           let s = listed-stands (a .reads) o (find-some code os o e .0) in
           let w : dataStart o + length (o .item .body) ≤ length m = in-field (o .field) (o .offset) (length (o .item .body)) (option-in (s .stands .option)) in
-          (omega (arith, w, passed m os (a .reads) .most), λ z. (omega arith, rw (len-is o e) w))
+          (omega (arith, w, passed m os (a .reads) .most), λ z. (omega (arith, start-le (o .field)), rw (len-is o e) w))
 
 -- ---- a message that may be refused
 

@@ -1,5 +1,6 @@
 -- What the public contracts rest on
 pub mod Fields
+pub mod Origins
 pub mod Part
 pub mod Active
 pub mod Scan

@@ -7,6 +7,7 @@ ghost use lib.ListN.{length, take, drop};
 ghost use Rattle.options.specs.Message.{start, bytes, cookie};
 ghost use Rattle.options.specs.Reading.{same, fileIn, snameIn};
 ghost use Rattle.message.specs.Fields.{fieldOf};
+ghost use Rattle.message.specs.Origins.{originOf, originAt};
 ghost use Rattle.message.specs.Active.{activeIn};
 ghost use Rattle.message.specs.Part.{partAt};
 ghost use Rattle.message.specs.Scan.{stopAt, scanOf, Scans};
@@ -27,6 +28,40 @@ pub fn base(field: Field) -> usize
         Field::Options => 240,
         Field::File => 108,
         Field::Sname => 44,
+    }
+}
+
+// Where an option stands (document 02, request 01): the field that holds its code byte, and that byte's offset in it.
+pub struct Origin {
+    pub field: Field,
+    pub offset: usize,
+}
+
+// The origin of an option whose code byte stands at a place of the message. The fields lie apart, so the place tells the field.
+pub fn origin_at(place: usize) -> Origin
+    ensures { λ r. ⌜ originOf r ≡ originAt place ⌝ }
+{
+    if 240 <= place {
+        return Origin {
+            field: Field::Options,
+            offset: place - 240,
+        };
+    }
+    if 108 <= place {
+        return Origin {
+            field: Field::File,
+            offset: place - 108,
+        };
+    }
+    if place < 44 {
+        return Origin {
+            field: Field::Sname,
+            offset: 0,
+        };
+    }
+    Origin {
+        field: Field::Sname,
+        offset: place - 44,
     }
 }
 

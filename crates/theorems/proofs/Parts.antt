@@ -1,5 +1,5 @@
 -- Data, text, and the bytes of an answer: the statements of AnswerClaims on them, proved. Assumes nothing.
-use mathlib.Core.Path.{_≡_, refl, sym, ap, _∙_}
+use mathlib.Core.Path.{_≡_, refl, sym, ap, _∙_, subst}
 use mathlib.Core.List.{List}
 use mathlib.Core.Bool.{Bool, true, false, cond}
 use mathlib.Core.Option.{Option, none, some}
@@ -11,12 +11,13 @@ use lib.Seq.{take-take}
 use borrow.Author.Tests.{le-leb, eq-eqb}
 use Rattle.options.specs.Message.{Opt, dataStart, Holds, heldOption}
 use Rattle.options.specs.Reading.{Reading, accepted, refused, readMessage, find}
-use Rattle.options.specs.Kinds.{address, addresses, pairs, flag, octet, number16, numbers16, unsigned32, signed32, text, opaque, kindOf, lengthFits, valueFits, trimmed, meaning, judged, part, Table, Proper, kinds}
-use Rattle.options.specs.Answers.{Answer, Absent, Unknown, Refused, Number, Part, shown, noCode, lookup, noExtent, extent, bytesOf, dataIn, dataFound, dataOf, textIn, textOf}
-use Rattle.options.specs.ReadingClaims.{IsAccepted, Shows, shows-unknown, shows-broken, shows-number, shows-part}
-use Rattle.options.specs.AnswerClaims.{DataIsTheOptions, NoDataElse, TextIsTheAnswers, NoTextElse, TextIsTheOptions, ZeroIfEmpty, EmptyPartIsZero, OwnBytesShown, ShownBytesAreTheOptions}
+use Rattle.options.specs.Kinds.{address, addresses, pairs, flag, octet, number16, numbers16, unsigned32, signed32, text, opaque, kindOf, lengthFits, valueFits, trimmed, meaning, judged, broken, number, part, Table, Proper, kinds}
+use Rattle.options.specs.Answers.{Origin, startOf, Content, unknown, known, Answer, Absent, Refused, Found, originOf, contentOf, noCode, lookup, noExtent, extent, bytesOf, dataIn, dataFound, dataOf, textIn, textOf}
+use Rattle.options.specs.ReadingClaims.{IsAccepted, ContentIs, is-unknown, is-known, Shows}
+use Rattle.options.specs.AnswerClaims.{DataIsTheOptions, NoDataElse, TextIsTheAnswers, NoTextElse, TextIsTheOptions, ZeroIfEmpty, EmptyPartIsZero, GivesLength, unknown-length, part-length, OwnBytesShown, ShownBytesAreTheOptions}
 use Rattle.theorems.proofs.View.{clash}
-use Rattle.theorems.proofs.Reading.{held, held-asked, holds-in, find-some, find-held, listed-bytes, lookup-held, shows-what-stands}
+use Rattle.theorems.proofs.Reading.{held, holds-in, find-some, find-held, listed-bytes, own-bytes}
+use Rattle.theorems.proofs.Lookup.{held-asked, content-of, found-same, lookup-held, shows-what-stands}
 use Rattle.theorems.proofs.KindRules.{kinds-proper}
 use Rattle.theorems.proofs.TextEnds.{trimmed-ends, text-end-unique}
 
@@ -61,25 +62,26 @@ no-data-else m c n = asked (noCode c)
 
 pub text-is-the-answers : TextIsTheAnswers
 unfolding textOf
-text-is-the-answers set m c s n e = ap textIn e
+text-is-the-answers set m c n g e = ap textIn e
 
 -- an answer is a text, or has no text
-text-or-none : (x : Answer) → ((s : ℕ) × (n : ℕ) × (x ≡ Part text s n)) ⊎ (textIn x ≡ noExtent)
+text-or-none : (x : Answer) → ((n : ℕ) × (g : Origin) × (x ≡ Found g (known (part text n)))) ⊎ (textIn x ≡ noExtent)
 text-or-none Absent = inr refl
-text-or-none (Unknown s n) = inr refl
 text-or-none (Refused n p) = inr refl
-text-or-none (Number k z) = inr refl
-text-or-none (Part text s n) = inl (s, n, refl)
-text-or-none (Part address s n) = inr refl
-text-or-none (Part addresses s n) = inr refl
-text-or-none (Part pairs s n) = inr refl
-text-or-none (Part flag s n) = inr refl
-text-or-none (Part octet s n) = inr refl
-text-or-none (Part number16 s n) = inr refl
-text-or-none (Part numbers16 s n) = inr refl
-text-or-none (Part unsigned32 s n) = inr refl
-text-or-none (Part signed32 s n) = inr refl
-text-or-none (Part opaque s n) = inr refl
+text-or-none (Found g (unknown n)) = inr refl
+text-or-none (Found g (known (broken n))) = inr refl
+text-or-none (Found g (known (number k z))) = inr refl
+text-or-none (Found g (known (part text n))) = inl (n, g, refl)
+text-or-none (Found g (known (part address n))) = inr refl
+text-or-none (Found g (known (part addresses n))) = inr refl
+text-or-none (Found g (known (part pairs n))) = inr refl
+text-or-none (Found g (known (part flag n))) = inr refl
+text-or-none (Found g (known (part octet n))) = inr refl
+text-or-none (Found g (known (part number16 n))) = inr refl
+text-or-none (Found g (known (part numbers16 n))) = inr refl
+text-or-none (Found g (known (part unsigned32 n))) = inr refl
+text-or-none (Found g (known (part signed32 n))) = inr refl
+text-or-none (Found g (known (part opaque n))) = inr refl
 
 pub no-text-else : NoTextElse
 unfolding textOf
@@ -94,16 +96,16 @@ text-value c d k h =
 
 pub text-held : (set : ℕ → Bool) {m : List ℕ} {c : ℕ} → IsAccepted m → (h : Holds m c) → set c ≡ true → kindOf c ≡ some text → 1 ≤ length (h .body)
     → textOf set m c ≡ extent (dataStart (heldOption h)) (trimmed (h .body))
-unfolding textOf shown
-text-held set {m} {c} a h known k l =
-    let e : shown kinds set (heldOption h) ≡ Part text (dataStart (heldOption h)) (trimmed (h .body)) = rw (known, text-value c (h .body) k l, k) in
-    ap textIn (lookup-held kinds set m c a h ∙ e)
+unfolding textOf
+text-held set {m} {c} a h known-bit k l =
+    let e : contentOf kinds set c (h .body) ≡ known (part text (trimmed (h .body))) = rw (known-bit, text-value c (h .body) k l, k) in
+    ap textIn (lookup-held kinds set m c a h ∙ ap (Found (originOf (heldOption h))) e)
 
 pub text-is-the-options : TextIsTheOptions
-text-is-the-options set m c n a h known k l t =
+text-is-the-options set m c n a h known-bit k l t =
     let s : ℕ = dataStart (heldOption h) in
     let e : trimmed (h .body) ≡ n = text-end-unique (h .body) (trimmed (h .body)) n (trimmed-ends (h .body)) t in
-    ap (bytesOf m) (text-held set a h known k l) ∙ bytes-of-extent m s (trimmed (h .body)) ∙ ap (λ (i : ℕ). take i (drop s m)) e
+    ap (bytesOf m) (text-held set a h known-bit k l) ∙ bytes-of-extent m s (trimmed (h .body)) ∙ ap (λ (i : ℕ). take i (drop s m)) e
     ∙ sym (take-take n (length (h .body)) (drop s m) (t .within)) ∙ ap (take n) (listed-bytes m (a .reads) (heldOption h) (holds-in a h))
 
 -- ---- An empty part is 0 and 0
@@ -128,35 +130,41 @@ empty-part-is-zero set m c = (data-part (noCode c), text-part (text-or-none (loo
     data-part true e = refl
     data-part false e = data-empty c (readMessage m) e
 
-    text-part : ((s : ℕ) × (n : ℕ) × (lookup kinds set m c ≡ Part text s n)) ⊎ (textIn (lookup kinds set m c) ≡ noExtent) → ZeroIfEmpty (textIn (lookup kinds set m c))
-    text-part (inl t) = rw (t .2) (extent-empty (t .0) (t .1))
+    text-part : ((n : ℕ) × (g : Origin) × (lookup kinds set m c ≡ Found g (known (part text n)))) ⊎ (textIn (lookup kinds set m c) ≡ noExtent) → ZeroIfEmpty (textIn (lookup kinds set m c))
+    text-part (inl t) = rw (t .2) (extent-empty (startOf (t .1)) (t .0))
     text-part (inr e) = rw e (λ z. refl)
 
 -- ---- The bytes of an answer
 
--- of any table whose parts are no longer than their data
-pub shown-bytes : {t : Table} {set : ℕ → Bool} {o : Opt} {w : Answer} (m : List ℕ) → Proper t → take (length (o .item .body)) (drop (dataStart o) m) ≡ o .item .body
-    → Shows t set o w → OwnBytesShown m (o .item .body) w
-shown-bytes {o = o} m p own (shows-unknown x) =
+-- so many of the first bytes
+pub less : (n : ℕ) (d x : List ℕ) → n ≤ length d → take (length d) x ≡ d → take n x ≡ take n d
+less n d x h e = sym (take-take n (length d) x h) ∙ ap (take n) e
+
+-- the content of an answer, for data d, of any table whose parts are no longer than their data
+module _ {t : Table} (proper : Proper t) {set : ℕ → Bool} {c : ℕ} {d : List ℕ} where
+  pub length-within : (x y : Content) (n : ℕ) → ContentIs t set c d x → x ≡ y → GivesLength y n → n ≤ length d
+  length-within x y n (is-unknown e) z unknown-length = let q : length d ≡ n = cc in omega arith
+  length-within x y n (is-unknown e) z (part-length {k = k}) = clash (cc)
+  length-within x y n (is-known e) z unknown-length = clash (cc)
+  length-within x y n (is-known e) z (part-length {k = k}) = let q : t .value c d ≡ part k n = cc in proper .within c d k n q
+
+  unknown-all : (x : Content) (n : ℕ) → ContentIs t set c d x → x ≡ unknown n → n ≡ length d
+  unknown-all x n (is-unknown e) z = let q : length d ≡ n = cc in sym q
+  unknown-all x n (is-known e) z = clash (cc)
+
+pub shown-bytes : (t : Table) → Proper t → (set : ℕ → Bool) (m : List ℕ) (c : ℕ) (h : Holds m c) → OwnBytesShown m (h .body) (originOf (heldOption h)) (contentOf t set c (h .body))
+shown-bytes t proper set m c h =
+    let d : List ℕ = h .body in
+    let is = content-of t set c d in
     record {
-      unknown-bytes = λ s n e.
-          let start : dataStart o ≡ s = cc in
-          let size : length (o .item .body) ≡ n = cc in
-          rw (← start, ← size) own;
-      part-bytes = λ k s n e. clash (cc);
-    }
-shown-bytes m p own (shows-broken x y) = record { unknown-bytes = λ s n e. clash (cc); part-bytes = λ k s n e. clash (cc) }
-shown-bytes m p own (shows-number x y) = record { unknown-bytes = λ s n e. clash (cc); part-bytes = λ k s n e. clash (cc) }
-shown-bytes {o = o} m p own (shows-part {k = k} {n = n} x y) =
-    record {
-      unknown-bytes = λ s n e. clash (cc);
-      part-bytes = λ k′ s n′ e.
-          let start : dataStart o ≡ s = cc in
-          let size : n ≡ n′ = cc in
-          rw (← start, ← size)
-          (sym (take-take n (length (o .item .body)) (drop (dataStart o) m) (p .within (o .item .tag) (o .item .body) k n y)) ∙ ap (take n) own);
+      within = λ n g. length-within proper (contentOf t set c d) (contentOf t set c d) n is refl g;
+      unknown-whole = λ n e. unknown-all proper (contentOf t set c d) n is e;
+      from-start = λ n g. less n d (drop (dataStart (heldOption h)) m) (length-within proper (contentOf t set c d) (contentOf t set c d) n is refl g)
+          (own-bytes m (heldOption h) (record { active = h .active; stands = h .stands }));
     }
 
 pub shown-bytes-are-the-options : ShownBytesAreTheOptions
-shown-bytes-are-the-options set m c a h =
-    shown-bytes m kinds-proper (listed-bytes m (a .reads) (heldOption h) (holds-in a h)) (shows-what-stands kinds set m c a h)
+shown-bytes-are-the-options set m c g x e h =
+    let s : Shows kinds set m c g x = shows-what-stands kinds set m c g x .0 e in
+    let z = found-same (sym (lookup-held kinds set m c (s .is-accepted) h) ∙ e) in
+    subst (λ (f : Origin). OwnBytesShown m (h .body) f x) (z .0) (subst (OwnBytesShown m (h .body) (originOf (heldOption h))) (z .1) (shown-bytes kinds kinds-proper set m c h))

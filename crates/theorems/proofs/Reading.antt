@@ -14,8 +14,7 @@ use Rattle.options.specs.Message.{Field, options, file, sname, start, bytes, tu
 use Rattle.options.specs.Refusals.{same-field, field-before, When, within, Row, row-1, row-2, row-3, row-4, row-5, row-6, row-7, Before, by-part, by-offset, by-number, First}
 use Rattle.options.specs.Reading.{Reading, accepted, refused, readMessage, find}
 use Rattle.options.specs.Kinds.{Kind, address, addresses, pairs, flag, octet, number16, numbers16, unsigned32, signed32, text, opaque, Value, broken, number, part, Table, kinds, kindOf, judgedBy, judged, lengthFits, valueFits, meaning}
-use Rattle.options.specs.Answers.{isKnown, Answer, Absent, Unknown, Refused, valueAt, shown, shownFound, answered, noCode, lookup}
-use Rattle.options.specs.ReadingClaims.{RefusedByTheTable, IsAccepted, AcceptedByTheTable, AbsentIffNotHeld, ShowsWhatStands, Shows, shows-unknown, shows-broken, shows-number, shows-part, OwnBytes, StandsOnce, LookupRow, row-10, of-message, row-8-9, LookupRefusedByTheTable, KnownSetIndifferent, In, Precedes, CorrectList, Correct, ReadingIsCorrect}
+use Rattle.options.specs.ReadingClaims.{RefusedByTheTable, IsAccepted, AcceptedByTheTable, OwnBytes, StandsOnce, In, Precedes, CorrectList, Correct, ReadingIsCorrect}
 use Rattle.theorems.proofs.View.{clash}
 use Rattle.theorems.proofs.Fields.{option-same, option-in, compare}
 use Rattle.theorems.proofs.Messages.{turn-same, two-ways, no-way, Clean, Upto, says}
@@ -197,7 +196,7 @@ own-bytes m o s = go (o .field) (s .stands .option)
 pub listed-bytes : (m : List ℕ) {os : List Opt} → readMessage m ≡ accepted os → (o : Opt) → In o os → take (length (o .item .body)) (drop (dataStart o) m) ≡ o .item .body
 listed-bytes m e o i = own-bytes m o (listed-stands e o i)
 
--- ---- the lookup
+-- ---- an option with a code
 
 -- what is found is an option with the code, and nothing is found where there is none
 pub find-some : (c : ℕ) (os : List Opt) (o : Opt) → find c os ≡ some o → In o os × (c ≡ o .item .tag)
@@ -238,106 +237,6 @@ module _ {m : List ℕ} (a : IsAccepted m) where
       go none e = refl
       go (some o) e = let f = find-some c (a .options) o e in absurd (n (held a c o (f .0) (f .1) .0))
 
--- codes that may be asked for
-pub asked : (c : ℕ) → 1 ≤ c → c ≤ 254 → noCode c ≡ false
-asked c l u = rw (ne-eqb c 0 (omega arith), ne-eqb c 255 (omega arith))
-
-pub held-asked : {m : List ℕ} {c : ℕ} → Holds m c → noCode c ≡ false
-held-asked {m} {c} h = rw (ne-eqb c 0 (h .stands .option .no-pad), ne-eqb c 255 (h .stands .option .no-end))
-
-refused-same : {n p k q : ℕ} → Refused n p ≡ Refused k q → (n ≡ k) × (p ≡ q)
-refused-same e = (cc, cc)
-
-module _ (t : Table) (set : ℕ → Bool) where
-  lookup-is : (m : List ℕ) (c : ℕ) → noCode c ≡ false → lookup t set m c ≡ answered t set c (readMessage m)
-  unfolding lookup
-  lookup-is m c e = rw e
-
-  pub lookup-found : (m : List ℕ) (c : ℕ) (a : IsAccepted m) → noCode c ≡ false → lookup t set m c ≡ shownFound t set (find c (a .options))
-  lookup-found m c a e = lookup-is m c e ∙ ap (answered t set c) (a .reads)
-
-  pub lookup-held : (m : List ℕ) (c : ℕ) → IsAccepted m → (h : Holds m c) → lookup t set m c ≡ shown t set (heldOption h)
-  lookup-held m c a h = lookup-found m c a (held-asked h) ∙ ap (shownFound t set) (find-held a h)
-
-  -- the answer for an option is its own
-  pub shown-shows : (o : Opt) → Shows t set o (shown t set o)
-  unfolding shown
-  shown-shows o = go (isKnown t set (o .item .tag)) (t .value (o .item .tag) (o .item .body)) refl refl
-    where
-      go : (k : Bool) (v : Value) → isKnown t set (o .item .tag) ≡ k → t .value (o .item .tag) (o .item .body) ≡ v
-          → Shows t set o (cond k (valueAt o v) (Unknown (dataStart o) (length (o .item .body))))
-      go true (broken n) x y = shows-broken x y
-      go true (number k z) x y = shows-number x y
-      go true (part k n) x y = shows-part x y
-      go false v x y = shows-unknown x
-
-  shows-not-absent : {o : Opt} {w : Answer} → Shows t set o w → w ≡ Absent → ⊥
-  shows-not-absent (shows-unknown x) e = clash (cc)
-  shows-not-absent (shows-broken x y) e = clash (cc)
-  shows-not-absent (shows-number x y) e = clash (cc)
-  shows-not-absent (shows-part x y) e = clash (cc)
-
-  shows-refused : {o : Opt} {w : Answer} {n p : ℕ} → Shows t set o w → w ≡ Refused n p
-      → (isKnown t set (o .item .tag) ≡ true) × (t .value (o .item .tag) (o .item .body) ≡ broken n) × (place o ≡ p)
-  shows-refused (shows-unknown x) e = clash (cc)
-  shows-refused (shows-broken x y) e = let z = refused-same e in (x, y ∙ ap broken (z .0), z .1)
-  shows-refused (shows-number x y) e = clash (cc)
-  shows-refused (shows-part x y) e = clash (cc)
-
-pub shows-what-stands : ShowsWhatStands
-shows-what-stands t set m c a h = rw (lookup-held t set m c a h) (shown-shows t set (heldOption h))
-
-pub absent-iff-not-held : AbsentIffNotHeld
-absent-iff-not-held t set m c a l u = (
-  (λ e h. shows-not-absent t set (shows-what-stands t set m c a h) e),
-  (λ n. lookup-found t set m c a (asked c l u) ∙ ap (shownFound t set) (find-not-held a c n)),
-)
-
--- ---- the lookup's refusals
-
-no-code : (c : ℕ) → (c ≡ 0) ⊎ (c ≡ 255) → noCode c ≡ true
-no-code c (inl e) = rw e
-no-code c (inr e) = rw e
-
-code-range : (c : ℕ) → ((c ≡ 0) ⊎ (c ≡ 255) → ⊥) → c ≤ 255 → (1 ≤ c) × (c ≤ 254)
-code-range c n l = (low c (λ e. n (inl e)), high c (λ e. n (inr e)) l)
-  where
-    low : (c : ℕ) → (c ≡ 0 → ⊥) → 1 ≤ c
-    low c n = omega arith
-
-    high : (c : ℕ) → (c ≡ 255 → ⊥) → c ≤ 255 → c ≤ 254
-    high c n l = omega arith
-
-module _ (t : Table) (set : ℕ → Bool) (m : List ℕ) (c : ℕ) where
-  from-row : {n p : ℕ} → LookupRow t set m c n p → lookup t set m c ≡ Refused n p
-  unfolding lookup shown
-  from-row (row-10 h) = rw (no-code c h)
-  from-row {n} {p} (of-message l u f) = lookup-is t set m c (asked c l u) ∙ ap (answered t set c) (refused-by-the-table m n p .1 f)
-  from-row (row-8-9 l u a k h v) = lookup-held t set m c a h ∙ rw (k, v)
-
-  of-option : (n p : ℕ) → 1 ≤ c → c ≤ 254 → (a : IsAccepted m) (x : Option Opt) → find c (a .options) ≡ x → shownFound t set x ≡ Refused n p → LookupRow t set m c n p
-  of-option n p l u a none e z = clash (cc)
-  of-option n p l u a (some o) e z =
-      let f = find-some c (a .options) o e in
-      let k = held a c o (f .0) (f .1) in
-      let r = shows-refused t set (shown-shows t set (heldOption (k .0))) (ap (shown t set) (k .1) ∙ z) in
-      subst (λ (q : ℕ). LookupRow t set m c n q) (r .2) (row-8-9 l u a (r .0) (k .0) (r .1))
-
-  of-reading : (n p : ℕ) → 1 ≤ c → c ≤ 254 → (w : Reading) → readMessage m ≡ w → answered t set c w ≡ Refused n p → LookupRow t set m c n p
-  of-reading n p l u (refused k q) e z = of-message l u (refused-by-the-table m n p .0 (e ∙ ap₂ refused (refused-same z .0) (refused-same z .1)))
-  of-reading n p l u (accepted os) e z = of-option n p l u (record { options = os; reads = e }) (find c os) refl z
-
-  to-row : (n p : ℕ) → c ≤ 255 → lookup t set m c ≡ Refused n p → LookupRow t set m c n p
-  unfolding lookup
-  to-row n p h e = go (noCode c) refl e
-    where
-      go : (b : Bool) → noCode c ≡ b → cond b (Refused 10 0) (answered t set c (readMessage m)) ≡ Refused n p → LookupRow t set m c n p
-      go true q z = subst (λ (y : ℕ). LookupRow t set m c n y) (refused-same z .1) (subst (λ (y : ℕ). LookupRow t set m c y 0) (refused-same z .0) (row-10 (two-ways 0 255 c q)))
-      go false q z = let x = code-range c (no-way 0 255 c q) h in of-reading n p (x .0) (x .1) (readMessage m) refl z
-
-pub lookup-refused-by-the-table : LookupRefusedByTheTable
-lookup-refused-by-the-table t set m c n p h = (to-row t set m c n p h, from-row t set m c)
-
 -- what a kind makes of data that fits it is not broken
 meaning-whole : (k : Kind) (d : List ℕ) (n : ℕ) → meaning k d ≡ broken n → ⊥
 unfolding meaning
@@ -365,14 +264,6 @@ broken-8-or-9 c d n e = go (kindOf c) e
     go : (o : Option Kind) → judgedBy o c d ≡ broken n → (n ≡ 8) ⊎ (n ≡ 9)
     go none e = clash (cc)
     go (some k) e = rules k (lengthFits k c (length d)) (valueFits k c d) e
-
-pub known-set-indifferent : KnownSetIndifferent
-known-set-indifferent set set′ m c n p l n8 n9 e = from-row kinds set′ m c (same-row (to-row kinds set m c n p l e) n8 n9)
-  where
-    same-row : {n p : ℕ} → LookupRow kinds set m c n p → (n ≡ 8 → ⊥) → (n ≡ 9 → ⊥) → LookupRow kinds set′ m c n p
-    same-row (row-10 h) n8 n9 = row-10 h
-    same-row (of-message l u f) n8 n9 = of-message l u f
-    same-row {n} (row-8-9 l u a k h v) n8 n9 = absurd (⊎-elim n8 n9 (broken-8-or-9 c (h .body) n v))
 
 -- ---- no other reading is right
 

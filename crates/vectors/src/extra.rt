@@ -37,17 +37,17 @@ fn message() -> [u8; 300] {
 fn lookups(m: &[u8]) {
     let none = [0u64; 4];
     let only_12 = [4096u64, 0, 0, 0];
-    print::look_up(m, ALL, 0);
-    print::look_up(m, ALL, 255);
-    print::look_up(m, ALL, 50);
-    print::look_up(m, none, 0);
-    print::look_up(m, none, 12);
-    print::look_up(m, none, 50);
-    print::look_up(m, only_12, 12);
-    print::look_up(m, only_12, 3);
-    print::look_up(m, only_12, 53);
-    print::look_up(m, only_12, 120);
-    print::look_up(m, only_12, 51);
+    print::line(m, ALL, 0);
+    print::line(m, ALL, 255);
+    print::line(m, ALL, 50);
+    print::line(m, none, 0);
+    print::line(m, none, 12);
+    print::line(m, none, 50);
+    print::line(m, only_12, 12);
+    print::line(m, only_12, 3);
+    print::line(m, only_12, 53);
+    print::line(m, only_12, 120);
+    print::line(m, only_12, 51);
 }
 
 // Data of known, broken, rowless and absent codes.
@@ -99,8 +99,8 @@ fn sheets(m: &[u8]) {
 
 // A refused message; 10 comes before that.
 fn refusals(m: &[u8], sheet: &mut [u8]) {
-    print::look_up(m, ALL, 12);
-    print::look_up(m, ALL, 0);
+    print::line(m, ALL, 12);
+    print::line(m, ALL, 0);
     print::data(m, 12);
     print::text(m, ALL, 12);
     print::present(dhcpopt_reader::dhcpopt_present(m));

@@ -1,4 +1,5 @@
 // The lines of the output, each from the call that it shows. Most calls are those that C links.
+use crate::names;
 use crate::walk;
 use console::number;
 use console::one;
@@ -10,43 +11,76 @@ use dhcpopt_reader::PlainCodes;
 use dhcpopt_reader::PlainExtent;
 use message::part;
 
-// A blank and the name of an answer: absent, unknown, refused, or a kind, each in 11 bytes.
+// A blank and a name, each in 11 bytes: absent, unknown, refused; the kinds; broken; the fields.
 fn name(i: u32) {
     let t = part(
-        b" absent\0\0\0\0 unknown\0\0\0 refused\0\0\0 address\0\0\0 addresses\0 pairs\0\0\0\0\0 flag\0\0\0\0\0\0 octet\0\0\0\0\0 number16\0\0 numbers16\0 unsigned32 signed32\0\0 text\0\0\0\0\0\0 opaque\0\0\0\0",
+        b" absent\0\0\0\0 unknown\0\0\0 refused\0\0\0 address\0\0\0 addresses\0 pairs\0\0\0\0\0 flag\0\0\0\0\0\0 octet\0\0\0\0\0 number16\0\0 numbers16\0 unsigned32 signed32\0\0 text\0\0\0\0\0\0 opaque\0\0\0\0 broken\0\0\0\0 options\0\0\0 file\0\0\0\0\0\0 sname\0\0\0\0\0",
         i as usize * 11,
         11,
     );
     word(part(t, 0, kinds::text_len(t)));
 }
 
+// A name from one of those on, by its number there; `?` where none has it.
+fn named(from: u32, i: u32, most: u32) {
+    if most < i {
+        word(b" ?");
+        return;
+    }
+    name(from % 16 + i % 16);
+}
+
 // The name of an answer, by its status and its kind.
 fn answer_name(status: u32, kind: u32) {
     if status < 3 {
         name(status);
-    } else {
-        name(kind % 12 + 2);
+        return;
     }
+    if status < 5 {
+        named(2, kind, 11);
+        return;
+    }
+    named(9, status, 5);
 }
 
-// The name of the answer, and its numbers.
-fn answer(a: PlainAnswer) {
+// What is answered of an option: its name, and its number, its length, or number and place of what is broken.
+fn content(a: PlainAnswer) {
     answer_name(a.status, a.kind);
     if a.status == 3 {
         console::signed(a.number);
         return;
     }
-    if a.status == 2 {
+    if a.status == 5 {
         two(b"", a.refusal as usize, a.place);
         return;
     }
-    if a.status != 0 {
-        two(b"", a.start, a.length);
+    number(a.length as u64);
+}
+
+// An answer: absent, refused, or what is answered of an option and where that stands.
+fn answer(a: PlainAnswer) {
+    if a.status == 0 {
+        name(0);
+        return;
     }
+    if a.status == 2 {
+        name(2);
+        two(b"", a.refusal as usize, a.place);
+        return;
+    }
+    content(a);
+    named(14, a.field, 3);
+    two(b"", a.offset, a.start);
+}
+
+// The line of the lookup of a code that the message holds, and what is compared besides.
+pub fn look_up(m: &[u8], known: [u64; 4], code: u8) {
+    line(m, known, code);
+    names::held(m, code);
 }
 
 // The line of a lookup.
-pub fn look_up(m: &[u8], known: [u64; 4], code: u8) {
+pub fn line(m: &[u8], known: [u64; 4], code: u8) {
     io::print_decimal(1, code as u64);
     answer(dhcpopt_reader::dhcpopt_lookup(m, known[0], known[1], known[2], known[3], code));
     word(b"\n");
@@ -117,7 +151,7 @@ fn by_calls(list: &[u8]) {
     let mut left: usize = 64;
     while left > 0 {
         let c = dhcpopt_reader::dhcpopt_address_step(list, at);
-        if c.given == 0 {
+        if c.given != 1 {
             break;
         }
         number(c.address as u64);

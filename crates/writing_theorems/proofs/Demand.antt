@@ -6,20 +6,21 @@ use mathlib.Core.Logic.{inl, inr, _↔_}
 use Prim.Native.Nat.{ℕ, _-_, _≤_}
 use native.Mathlib.Omega.{arith}
 use lib.ListN.{length, take, drop}
-use lib.Seq.{take-take}
 use lib.Dec.{ltb, leb, eqb}
 use borrow.Author.Tests.{ltb-false, le-ltb}
-use Rattle.options.specs.Message.{Field, Rec, Opt, opt, dataStart, Holds, heldOption}
+use Rattle.options.specs.Message.{Rec, Opt, Holds, heldOption}
 use Rattle.options.specs.Reading.{accepted, items, readMessage}
 use Rattle.options.specs.Kinds.{Table, Value, broken, number, part, Proper, kinds}
 use Rattle.options.specs.CodeSet.{marked}
-use Rattle.options.specs.Answers.{isKnown, Absent, valueAt, shown, lookup, recordBytes, but52, filledWith}
+use Rattle.options.specs.Answers.{Origin, startOf, known, Absent, Found, isKnown, originOf, contentOf, lookup, recordBytes, but52, filledWith}
 use Rattle.options.specs.ReadingClaims.{IsAccepted, In}
 use Rattle.options.specs.SheetWalk.{AllShort, Sheet, sound, faulty, isBroken}
 use Rattle.options.specs.Writing.{with52, written, pastSname, sheet, Wrote, wrote, declined, isNil, planFits, threeBeforeOne, placeOf3, plans, tryPlans, afterSheet, writer}
-use Rattle.options.specs.WritingClaims.{RecordIn, NoRecord, SameRecord, WrittenIsAccepted, SheetComesBack, bytesAt, SameButPlace, both-absent, same-number, same-part, IsKind, is-number, is-part, ReadsAsUnknown, Demand3, Demand3OfKinds}
+use Rattle.options.specs.WritingClaims.{RecordIn, NoRecord, SameRecord, WrittenIsAccepted, SheetComesBack, bytesAt, SameButPlace, both-absent, both-found, IsKind, is-number, is-part, ReadsAsUnknown, Demand3, Demand3OfKinds}
 use Rattle.theorems.proofs.View.{clash}
-use Rattle.theorems.proofs.Reading.{held, holds-in, absent-iff-not-held, lookup-held, own-bytes}
+use Rattle.theorems.proofs.Reading.{held, holds-in, own-bytes}
+use Rattle.theorems.proofs.Lookup.{absent-iff-not-held, lookup-held, content-of}
+use Rattle.theorems.proofs.Parts.{less, length-within}
 use Rattle.theorems.proofs.KindRules.{kinds-proper}
 use Rattle.theorems.proofs.Sheets.{records-is}
 use Rattle.writing_theorems.proofs.Written.{Distinct, Fits, read-written, items-written}
@@ -196,23 +197,20 @@ module _ (t : Table) (s w : List ℕ) (a : Accepted t s w) (c : ℕ) (n52 : c �
         ((λ e d r. i .0 e (record-held d r .0)), (λ n. i .1 (λ h. n (h .body) (held-record h))))
 
     -- a record is shown as an option of the message, with its bytes there
-    record-shown : (d : List ℕ) → RecordIn c d s → (fd : Field) × (i : ℕ) × (lookup t set w c ≡ shown t set (opt fd i c d)) × (bytesAt w (dataStart (opt fd i c d)) (length d) ≡ d)
+    record-shown : (d : List ℕ) → RecordIn c d s → (g : Origin) × (lookup t set w c ≡ Found g (contentOf t set c d)) × (bytesAt w g (length d) ≡ d)
     record-shown d r =
         let h = record-held d r in
         let k : Holds w c = h .0 in (
-          k .field,
-          k .offset,
-          lookup-held t set w c msg k ∙ ap (λ (x : List ℕ). shown t set (opt (k .field) (k .offset) c x)) (h .1),
-          subst (λ (x : List ℕ). bytesAt w (dataStart (opt (k .field) (k .offset) c x)) (length x) ≡ x) (h .1)
-              (own-bytes w (heldOption k) (record { active = k .active; stands = k .stands })),
+          originOf (heldOption k),
+          lookup-held t set w c msg k ∙ ap (λ (x : List ℕ). Found (originOf (heldOption k)) (contentOf t set c x)) (h .1),
+          subst (λ (x : List ℕ). bytesAt w (originOf (heldOption k)) (length x) ≡ x) (h .1) (own-bytes w (heldOption k) (record { active = k .active; stands = k .stands })),
         )
 
     reads-as-unknown : isKnown t set c ≡ false → ReadsAsUnknown t set c s w
-    unfolding shown
     reads-as-unknown k =
         record {
           absent-iff = absent-record;
-          else-unknown = λ d r. let h = record-shown d r in (dataStart (opt (h .0) (h .1) c d), h .2 ∙ rw k, h .3);
+          else-unknown = λ d r. let h = record-shown d r in (h .0, h .1 ∙ rw k, h .2);
         }
 
     unbroken : isKnown t set c ≡ true → (d : List ℕ) → RecordIn c d s → isBroken (t .value c d) ≡ false
@@ -225,36 +223,26 @@ module _ (t : Table) (s w : List ℕ) (a : Accepted t s w) (c : ℕ) (n52 : c �
 
 -- ---- demand 3
 
--- so many of the first bytes
-less : (n : ℕ) (d x : List ℕ) → n ≤ length d → take (length d) x ≡ d → take n x ≡ take n d
-less n d x h e = sym (take-take n (length d) x h) ∙ ap (take n) e
+-- one record read from two messages
+same-shown : (t : Table) → Proper t → (set : ℕ → Bool) (c : ℕ) (d w w′ : List ℕ) (g g′ : Origin) → bytesAt w g (length d) ≡ d → bytesAt w′ g′ (length d) ≡ d
+    → SameButPlace w w′ (Found g (contentOf t set c d)) (Found g′ (contentOf t set c d))
+same-shown t proper set c d w w′ g g′ e e′ =
+    both-found
+    (λ n l.
+    let h : n ≤ length d = length-within proper (contentOf t set c d) (contentOf t set c d) n (content-of t set c d) refl l in
+    less n d (drop (startOf g) w) h e ∙ sym (less n d (drop (startOf g′) w′) h e′))
 
-module _ (t : Table) (proper : Proper t) (set : ℕ → Bool) (c : ℕ) (k : isKnown t set c ≡ true) (d : List ℕ) (unbroken : isBroken (t .value c d) ≡ false) where
-  -- one record read from two messages
-  same-shown : (w w′ : List ℕ) (fd fd′ : Field) (i i′ : ℕ) → bytesAt w (dataStart (opt fd i c d)) (length d) ≡ d → bytesAt w′ (dataStart (opt fd′ i′ c d)) (length d) ≡ d
-      → SameButPlace w w′ (shown t set (opt fd i c d)) (shown t set (opt fd′ i′ c d))
-  unfolding shown
-  same-shown w w′ fd fd′ i i′ e e′ = rw k (go (t .value c d) refl unbroken)
-    where
-      go : (v : Value) → t .value c d ≡ v → isBroken v ≡ false → SameButPlace w w′ (valueAt (opt fd i c d) v) (valueAt (opt fd′ i′ c d) v)
-      go (broken n) q b = clash (cc)
-      go (number x z) q b = same-number
-      go (part x n) q b =
-          let h : n ≤ length d = proper .within c d x n q in
-          same-part (less n d (drop (dataStart (opt fd i c d)) w) h e ∙ sym (less n d (drop (dataStart (opt fd′ i′ c d)) w′) h e′))
-
-  kind-shown : (fd : Field) (i : ℕ) → IsKind (shown t set (opt fd i c d))
-  unfolding shown
-  kind-shown fd i = rw k (go (t .value c d) unbroken)
-    where
-      go : (v : Value) → isBroken v ≡ false → IsKind (valueAt (opt fd i c d) v)
-      go (broken n) b = clash (cc)
-      go (number x z) b = is-number
-      go (part x n) b = is-part
+kind-shown : (t : Table) (set : ℕ → Bool) (c : ℕ) → isKnown t set c ≡ true → (d : List ℕ) → isBroken (t .value c d) ≡ false → (g : Origin) → IsKind (Found g (contentOf t set c d))
+kind-shown t set c k d unbroken g = rw k (go (t .value c d) unbroken)
+  where
+    go : (v : Value) → isBroken v ≡ false → IsKind (Found g (known v))
+    go (broken n) b = clash (cc)
+    go (number x z) b = is-number
+    go (part x n) b = is-part
 
 pub demand-3 : Demand3
 demand-3 t proper set s s′ m m′ permission permission′ plan plan′ w w′ e e′ same-records c l u n52 = (
-  (λ k. record { same = same k (same-records c k); absent-iff = absent (same-records c k); else-kind = kind k }),
+  (λ k. record { same = same (same-records c k); absent-iff = absent (same-records c k); else-kind = kind k }),
   (λ k. (reads-as-unknown t s w a c n52 set l u k, reads-as-unknown t s′ w′ a′ c n52 set l u k)),
 )
   where
@@ -274,18 +262,17 @@ demand-3 t proper set s s′ m m′ permission permission′ plan plan′ w w′
     absent (inl n) = ((λ x. n), (λ x. gone .1 (x .0)))
     absent (inr r) = ((λ x. absurd (gone .0 x (r .0) (r .1))), (λ x. gone .1 (x .0)))
 
-    same : isKnown t set c ≡ true → SameRecord c s s′ → SameButPlace w w′ (lookup t set w c) (lookup t set w′ c)
-    same k (inl n) = rw (gone .1 (n .0), gone′ .1 (n .1)) both-absent
-    same k (inr r) =
+    same : SameRecord c s s′ → SameButPlace w w′ (lookup t set w c) (lookup t set w′ c)
+    same (inl n) = rw (gone .1 (n .0), gone′ .1 (n .1)) both-absent
+    same (inr r) =
         let h = record-shown t s w a c n52 set l u (r .0) (r .1) in
         let h′ = record-shown t s′ w′ a′ c n52 set l u (r .0) (r .2) in
-        rw (h .2, h′ .2)
-        (same-shown t proper set c k (r .0) (unbroken t s w a c n52 set l u k (r .0) (r .1)) w w′ (h .0) (h′ .0) (h .1) (h′ .1) (h .3) (h′ .3))
+        rw (h .1, h′ .1) (same-shown t proper set c (r .0) w w′ (h .0) (h′ .0) (h .2) (h′ .2))
 
     kind : isKnown t set c ≡ true → (d : List ℕ) → RecordIn c d s → IsKind (lookup t set w c)
     kind k d r =
         let h = record-shown t s w a c n52 set l u d r in
-        rw (h .2) (kind-shown t proper set c k d (unbroken t s w a c n52 set l u k d r) (h .0) (h .1))
+        rw (h .1) (kind-shown t set c k d (unbroken t s w a c n52 set l u k d r) (h .0))
 
 pub demand-3-of-kinds : Demand3OfKinds
 demand-3-of-kinds words = demand-3 kinds kinds-proper (marked words)

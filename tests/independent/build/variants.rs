@@ -46,21 +46,21 @@ const VARIANTS: &[Variant] = &[
     variant!(
         "file and sname taken for each other",
         "reading.rs",
-        "    if overload & 1 != 0 {\n        walk_field(message, FILE, COOKIE",
-        "    if overload & 1 != 0 {\n        walk_field(message, SNAME, FILE",
+        "    if overload & 1 != 0 {\n        walk_field(message, Field::File, COOKIE",
+        "    if overload & 1 != 0 {\n        walk_field(message, Field::Sname, FILE",
     ),
     variant!(
         "sname before file",
         "reading.rs",
         "    if overload & 1 != 0 {\n",
-        "    if overload == 3 {\n        walk_field(message, SNAME, FILE, &mut codes, &mut meet)?;\n        \
-         walk_field(message, FILE, COOKIE, &mut codes, &mut meet)?;\n        return Ok(codes);\n    }\n    \
+        "    if overload == 3 {\n        walk_field(message, Field::Sname, FILE, &mut codes, &mut meet)?;\n        \
+         walk_field(message, Field::File, COOKIE, &mut codes, &mut meet)?;\n        return Ok(codes);\n    }\n    \
          if overload & 1 != 0 {\n",
     ),
-    variant!("file ends a byte early", "reading.rs", "FILE, COOKIE,", "FILE, COOKIE - 1,"),
-    variant!("file runs into the cookie", "reading.rs", "FILE, COOKIE,", "FILE, OPTIONS,"),
-    variant!("sname ends a byte early", "reading.rs", "SNAME, FILE,", "SNAME, FILE - 1,"),
-    variant!("sname runs into file", "reading.rs", "SNAME, FILE,", "SNAME, COOKIE,"),
+    variant!("file ends a byte early", "reading.rs", "Field::File, COOKIE,", "Field::File, COOKIE - 1,"),
+    variant!("file runs into the cookie", "reading.rs", "Field::File, COOKIE,", "Field::File, OPTIONS,"),
+    variant!("sname ends a byte early", "reading.rs", "Field::Sname, FILE,", "Field::Sname, FILE - 1,"),
+    variant!("sname runs into file", "reading.rs", "Field::Sname, FILE,", "Field::Sname, COOKIE,"),
     variant!(
         "stops at 255 in data",
         "reading.rs",
@@ -77,7 +77,7 @@ const VARIANTS: &[Variant] = &[
         "options after END are read",
         "reading.rs",
         "        if code == END {\n            return Ok(overload);",
-        "        if code == END {\n            if field[place..].iter().all(|&byte| byte == 0 || byte == END) {\n                \
+        "        if code == END {\n            if bytes[place..].iter().all(|&byte| byte == 0 || byte == END) {\n                \
          return Ok(overload);\n            }\n            place += 1;\n            continue;",
     ),
     variant!("the end of a field is an END", "reading.rs", "refuse(5, after)", "Ok(overload)"),
@@ -86,9 +86,9 @@ const VARIANTS: &[Variant] = &[
     variant!(
         "data beyond the field by one byte",
         "reading.rs",
-        "if let Some(data) = field.get(place + 2..place + 2 + usize::from(length)) {",
+        "if let Some(data) = bytes.get(place + 2..place + 2 + usize::from(length)) {",
         "let after = place + 2 + usize::from(length);\n        \
-         if let Some(data) = field.get(place + 2..if after == field.len() + 1 { after - 1 } else { after }) {",
+         if let Some(data) = bytes.get(place + 2..if after == bytes.len() + 1 { after - 1 } else { after }) {",
     ),
     variant!("repeated codes are accepted", "reading.rs", "if !codes.add(code) {", "if !codes.add(code) && false {"),
     variant!(
@@ -97,8 +97,8 @@ const VARIANTS: &[Variant] = &[
         "    let mut overload = 0;\n",
         "    let mut overload = 0;\n    let codes = &mut { *codes };\n",
     ),
-    variant!("52 in file is accepted", "reading.rs", "first == OPTIONS && ", ""),
-    variant!("52 of length 2", "reading.rs", "[value] if first", "[value, ..] if first"),
+    variant!("52 in file is accepted", "reading.rs", "field == Field::Options && ", ""),
+    variant!("52 of length 2", "reading.rs", "[value] if field", "[value, ..] if field"),
     variant!(
         "7 before 6",
         "reading.rs",
@@ -106,6 +106,37 @@ const VARIANTS: &[Variant] = &[
         "        if codes.has(code) {\n            return refuse(7, place);\n        }\n        \
          if code == OVERLOAD {\n            overload",
     ),
+    // Reading: where an answer comes from.
+    variant!(
+        "file named for sname",
+        "reading.rs",
+        "Origin { field: self.field,",
+        "Origin { field: if self.field == Field::Sname { Field::File } else { self.field },",
+    ),
+    variant!(
+        "options named for file",
+        "reading.rs",
+        "Origin { field: self.field,",
+        "Origin { field: if self.field == Field::File { Field::Options } else { self.field },",
+    ),
+    variant!("an offset counted from the message", "reading.rs", "self.field, offset, start", "self.field, offset: self.place, start"),
+    variant!("an offset of the data", "reading.rs", "self.field, offset, start", "self.field, offset: offset + 2, start"),
+    variant!(
+        "a start of 0 at length 0",
+        "reading.rs",
+        "start: first + offset + 2",
+        "start: if self.length == 0 { 0 } else { first + offset + 2 }",
+    ),
+    variant!("a start counted in its field", "reading.rs", "start: first + offset + 2", "start: offset + 2"),
+    variant!(
+        "broken is a refusal",
+        "reading.rs",
+        "        Some(met) => Ok(",
+        "        Some(met) if matches!(content(message, known, met), Content::Broken(_)) => {\n            \
+         match content(message, known, met) {\n                Content::Broken(r) => Err(r),\n                \
+         _ => Ok(Lookup::Absent),\n            }\n        }\n        Some(met) => Ok(",
+    ),
+    variant!("broken's place counted in its field", "reading.rs", "place: met.place }", "place: met.origin().offset }"),
     // Reading: the calls.
     variant!("code 0 is absent", "reading.rs", "if code == PAD || code == END {", "if code == END {"),
     variant!("code 255 is absent", "reading.rs", "if code == PAD || code == END {", "if code == PAD {"),
@@ -140,8 +171,8 @@ const VARIANTS: &[Variant] = &[
     variant!(
         "text of opaque data",
         "reading.rs",
-        "Ok(Lookup::Part(Kind::Text, part))",
-        "Ok(Lookup::Part(Kind::Text | Kind::Opaque, part))",
+        "Content::Part(Kind::Text, length)",
+        "Content::Part(Kind::Text | Kind::Opaque, length)",
     ),
     variant!(
         "left-over bytes are an address",

@@ -1,19 +1,22 @@
 //! The C structures, and the implementation exported with the library's C
 //! signatures, so that single calls of it can be counted.
 
-use crate::rules::answers::{Codes, Lookup, Part, Refusal, RollCall};
+use crate::rules::answers::{Codes, Content, Lookup, Origin, Part, Refusal, RollCall};
 use crate::rules::{reading, writing};
 use std::slice;
 
-/// status: 0 absent, 1 unknown, 2 refused or broken, 3 a number, 4 a part.
+/// status: 0 absent, 1 unknown, 2 refused, 3 a number, 4 a part, 5 broken.
+/// field: 1 options, 2 file, 3 sname, or 0. What an answer does not give is 0.
 #[repr(C)]
 #[derive(Clone, Copy, PartialEq, Eq, Debug, Default)]
 pub struct Answer {
     pub status: u32,
     pub kind: u32,
     pub refusal: u32,
+    pub field: u32,
     pub number: i64,
     pub place: usize,
+    pub offset: usize,
     pub start: usize,
     pub length: usize,
 }
@@ -61,23 +64,25 @@ pub struct Wrote {
 
 impl From<Result<Lookup, Refusal>> for Answer {
     fn from(result: Result<Lookup, Refusal>) -> Answer {
-        let none = Answer::default();
         match result {
-            Ok(Lookup::Absent) => none,
-            Ok(Lookup::Unknown(part)) => {
-                Answer { status: 1, start: part.start, length: part.length, ..none }
+            Ok(Lookup::Absent) => Answer::default(),
+            Ok(Lookup::Found(origin, content)) => Answer::found(origin, content),
+            Err(r) => Answer { status: 2, refusal: r.number, place: r.place, ..Answer::default() },
+        }
+    }
+}
+
+impl Answer {
+    fn found(origin: Origin, content: Content) -> Answer {
+        let Origin { field, offset, start } = origin;
+        let there = Answer { field: field as u32, offset, start, ..Answer::default() };
+        match content {
+            Content::Unknown(length) => Answer { status: 1, length, ..there },
+            Content::Number(kind, number) => {
+                Answer { status: 3, kind: kind as u32, number, ..there }
             }
-            Err(r) => Answer { status: 2, refusal: r.number, place: r.place, ..none },
-            Ok(Lookup::Number(kind, number)) => {
-                Answer { status: 3, kind: kind as u32, number, ..none }
-            }
-            Ok(Lookup::Part(kind, part)) => Answer {
-                status: 4,
-                kind: kind as u32,
-                start: part.start,
-                length: part.length,
-                ..none
-            },
+            Content::Part(kind, length) => Answer { status: 4, kind: kind as u32, length, ..there },
+            Content::Broken(r) => Answer { status: 5, refusal: r.number, place: r.place, ..there },
         }
     }
 }

@@ -1,15 +1,11 @@
 -- `lookup::found` meets its contract. Assumes nothing.
 use borrow.Author.Needs.{needs}
 use native.Mathlib.Omega.{arith}
-use mathlib.Core.Path.{_≡_, sym, _∙_}
+use mathlib.Core.Path.{ap₂, _∙_}
 use native.Mathlib.Nat.{add-sub-cancel-left}
-use borrow.Author.Tests.{not-true, not-false}
 use Rattle.options.specs.CodeSet.{marked}
-use Rattle.options.specs.Kinds.{kindOf}
-use Rattle.kinds.specs.Numbers.{kindAt, faultOf}
-use Rattle.kinds.proofs.Numbering.{no-row, row, fault-broken, fault-kept}
-use Rattle.lookup.specs.Found.{dataAt, valueOf}
-use Rattle.lookup.proofs.Laws.{found-absent, found-no-row, found-unmarked, found-broken, found-kept}
+use Rattle.options.specs.Answers as asked
+use Rattle.lookup.proofs.Laws.{found-absent, found-met}
 use Rattle.lookup.proofs.found.Statement.{statement}
 use Rattle.lookup.proofs.found.Tie as tie
 
@@ -22,60 +18,37 @@ len-at-requires c κs = let w = c .before .before .pre .1 (c .if1 .left) in (ome
 add-end : tie.Need-add-end
 add-end c = search needs
 
-sub-d : tie.Need-sub-d
-sub-d c = search needs
+sub-origin-at : tie.Need-sub-origin-at
+sub-origin-at c =
+    let met = c .before in
+    omega (arith, met .before .before .pre .1 (met .if1 .left) .0)
 
-part-d-start : tie.Need-part-d-start
-part-d-start c = search needs
+origin-at-requires : tie.Need-origin-at-requires
+origin-at-requires c κs = search needs
 
-part-d-end : tie.Need-part-d-end
-part-d-end c = omega (arith, c .len-at .ensures .0, c .before .before .before .pre .1 (c .before .if1 .left) .1)
+sub-judge : tie.Need-sub-judge
+sub-judge c = search needs
 
-kind-requires : tie.Need-kind-requires
-kind-requires c κs = search needs
+part-judge-start : tie.Need-part-judge-start
+part-judge-start c = search needs
+
+part-judge-end : tie.Need-part-judge-end
+part-judge-end c =
+    let measured = c .before in
+    let met = measured .before in
+    omega (arith, measured .len-at .ensures .0, met .before .before .pre .1 (met .if1 .left) .1)
+
+judge-requires : tie.Need-judge-requires
+judge-requires c κs = search needs
 
 returns-2 : tie.Need-returns-2
 returns-2 c =
-    let a = c .before .before .before .before .before .before .args in
-    rw (add-sub-cancel-left, c .before .before .before .len-at .ensures .0) (found-no-row (a .m .now) (marked (a .known)) (a .code) (a .start) (c .before .before .before .before .if1 .left) (no-row (kindOf (a .code)) (c .before .kind .result) (c .before .kind .ensures) (c .if2 .taken)))
-
-contains-requires : tie.Need-contains-requires
-contains-requires c κs = search needs
-
-returns-3 : tie.Need-returns-3
-returns-3 c =
-    let a = c .before .before .before .before .before .before .before .before .args in
-    rw (add-sub-cancel-left, c .before .before .before .before .before .len-at .ensures .0) (found-unmarked (a .m .now) (marked (a .known)) (a .code) (a .start) (c .before .before .before .before .before .before .if1 .left) (sym (c .before .contains .ensures) ∙ not-true (c .before .contains .result) (c .if3 .taken)))
-
-fault-requires : tie.Need-fault-requires
-fault-requires c κs = search needs
-
-cast-t16 : tie.Need-cast-t16
-cast-t16 c = search needs
-
-sub-t17 : tie.Need-sub-t17
-sub-t17 c = omega (arith, c .before .before .before .before .before .before .before .before .before .before .pre .1 (c .before .before .before .before .before .before .before .before .if1 .left) .0)
-
-returns-4 : tie.Need-returns-4
-returns-4 c =
-    let a = c .before .before .before .before .before .before .before .before .before .before .args in
-    let d = dataAt (a .m .now) (a .start) in
-    let k = c .before .before .before .before .before .kind in
-    let e : c .before .fault .result ≡ faultOf (a .code) d = (rw (add-sub-cancel-left, c .before .before .before .before .before .before .before .len-at .ensures .0) at (c .before .fault .ensures)) in
-    found-broken (a .m .now) (marked (a .known)) (a .code) (a .start) (c .before .before .before .before .before .before .before .before .if1 .left) (kindAt (k .result)) (row (kindOf (a .code)) (k .result) (k .ensures) (c .before .before .before .before .if2 .left)) (sym (c .before .before .before .contains .ensures) ∙ not-false (c .before .before .before .contains .result) (c .before .before .if3 .left)) (c .before .fault .result) (fault-broken (a .code) d (c .before .fault .result) e (c .if4 .taken))
-
-value-requires : tie.Need-value-requires
-value-requires c κs = search needs
-
-returns-5 : tie.Need-returns-5
-unfolding valueOf
-returns-5 c =
-    let a = c .before .before .before .before .before .before .before .before .before .before .before .args in
-    let d = dataAt (a .m .now) (a .start) in
-    let k = c .before .before .before .before .before .before .kind in
-    let r = row (kindOf (a .code)) (k .result) (k .ensures) (c .before .before .before .before .before .if2 .left) in
-    let e : c .before .before .fault .result ≡ faultOf (a .code) d = (rw (add-sub-cancel-left, c .before .before .before .before .before .before .before .before .len-at .ensures .0) at (c .before .before .fault .ensures)) in
-    rw (c .value .ensures, add-sub-cancel-left, c .before .before .before .before .before .before .before .before .len-at .ensures .0) (found-kept (a .m .now) (marked (a .known)) (a .code) (a .start) (c .before .before .before .before .before .before .before .before .before .if1 .left) (kindAt (k .result)) r (sym (c .before .before .before .before .contains .ensures) ∙ not-false (c .before .before .before .before .contains .result) (c .before .before .before .if3 .left)) (fault-kept (a .code) (kindAt (k .result)) d r (sym e ∙ c .before .if4 .left)))
+    let placed = c .before .before in
+    let measured = placed .before in
+    let met = measured .before in
+    let a = met .before .before .args in
+    ap₂ asked.Found (placed .origin-at .ensures) (rw (add-sub-cancel-left, measured .len-at .ensures .0) at (c .judge .ensures))
+    ∙ found-met (a .m .now) (marked (a .known)) (a .code) (a .start) (met .if1 .left)
 
 pub found-spec : {M : Type 1} → statement M
 found-spec =
@@ -84,16 +57,10 @@ found-spec =
     returns
     len-at-requires
     add-end
-    sub-d
-    part-d-start
-    part-d-end
-    kind-requires
-    returns-2
-    contains-requires
-    returns-3
-    fault-requires
-    cast-t16
-    sub-t17
-    returns-4
-    value-requires
-    returns-5)
+    sub-origin-at
+    origin-at-requires
+    sub-judge
+    part-judge-start
+    part-judge-end
+    judge-requires
+    returns-2)

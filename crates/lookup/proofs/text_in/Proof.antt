@@ -56,10 +56,12 @@ clip-requires c κs = search needs
 
 returns-4 : tie.Need-returns-4
 returns-4 c =
-    let a = c .before .before .before .before .before .before .before .before .before .before .args in
+    let st = c .before .before .before .before .before .before .before .before .before .before in
+    let a = st .args in
+    let met = c .before .before .before .before .before .before .before .before .if1 .left in
     let k = c .before .before .before .before .before .before .before .kind in
     rw (c .clip .ensures, clip-is _ _, c .before .text-len .ensures, add-sub-cancel-left, c .before .before .before .len-at .ensures .0)
-    (text-found (a .m .now) (marked (a .set)) (a .code) (a .start) (c .before .before .before .before .before .before .before .before .if1 .left) (is-text (a .code) (k .result) (c .before .before .before .before .before .before .if2 .left) (row (kindOf (a .code)) (k .result) (k .ensures) (λ z. omega (arith, c .before .before .before .before .before .before .if2 .left))))
+    (text-found (a .m .now) (marked (a .set)) (a .code) (a .start) met (st .pre .1 met .0) (is-text (a .code) (k .result) (c .before .before .before .before .before .before .if2 .left) (row (kindOf (a .code)) (k .result) (k .ensures) (λ z. omega (arith, c .before .before .before .before .before .before .if2 .left))))
     (sym (c .before .before .before .before .before .contains .ensures) ∙ not-false (c .before .before .before .before .before .contains .result) (c .before .before .before .before .if3 .left)))
 
 pub text-in-spec : {M : Type 1} → statement M

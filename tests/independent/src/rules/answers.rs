@@ -38,13 +38,41 @@ pub enum Kind {
     Opaque = 11,
 }
 
+/// "the field that holds its code byte (options, file, sname)"
+#[derive(Clone, Copy, PartialEq, Eq, Debug)]
+pub enum Field {
+    Options = 1,
+    File = 2,
+    Sname = 3,
+}
+
+/// "Every lookup answer but absent, number and broken included, shall carry
+/// the field that holds its code byte (options, file, sname), that byte's
+/// offset in it and the data's start."
+#[derive(Clone, Copy, PartialEq, Eq, Debug)]
+pub struct Origin {
+    pub field: Field,
+    pub offset: usize,
+    pub start: usize,
+}
+
 /// The answer of a lookup that is not refused.
 #[derive(Clone, Copy, PartialEq, Eq, Debug)]
 pub enum Lookup {
     Absent,
-    Unknown(Part),
+    Found(Origin, Content),
+}
+
+/// What a lookup says of a code that is there.
+#[derive(Clone, Copy, PartialEq, Eq, Debug)]
+pub enum Content {
+    /// The length of the data.
+    Unknown(usize),
+    /// "broken (8 or 9)", at the code byte.
+    Broken(Refusal),
     Number(Kind, i64),
-    Part(Kind, Part),
+    /// The length of the part.
+    Part(Kind, usize),
 }
 
 /// "four words marking the codes present (52 included), how many bits are

@@ -1,6 +1,8 @@
 //! "What is asked of a message".
 
-use super::answers::{refuse, Codes, Kind, Lookup, Part, Refusal, RollCall, EMPTY};
+use super::answers::{
+    refuse, Codes, Content, Field, Kind, Lookup, Origin, Part, Refusal, RollCall, EMPTY,
+};
 use super::kinds;
 
 pub const SNAME: usize = 44;
@@ -21,17 +23,35 @@ const MOST_RECORDS: usize = 253;
 #[derive(Clone, Copy)]
 pub struct Met {
     pub code: u8,
+    pub field: Field,
     pub place: usize,
     pub length: usize,
 }
 
 impl Met {
+    /// "Start always equals the field's first byte plus offset plus two, at
+    /// length 0 too."
+    pub fn origin(&self) -> Origin {
+        let first = first(self.field);
+        let offset = self.place - first;
+        Origin { field: self.field, offset, start: first + offset + 2 }
+    }
+
     fn part(&self) -> Part {
         Part { start: self.place + 2, length: self.length }
     }
 
     pub fn data<'m>(&self, message: &'m [u8]) -> &'m [u8] {
         &message[self.place + 2..][..self.length]
+    }
+}
+
+/// A field's first byte.
+fn first(field: Field) -> usize {
+    match field {
+        Field::Options => OPTIONS,
+        Field::File => FILE,
+        Field::Sname => SNAME,
     }
 }
 
@@ -55,13 +75,13 @@ fn check_frame(message: &[u8]) -> Result<(), Refusal> {
 pub fn walk(message: &[u8], mut meet: impl FnMut(Met)) -> Result<Codes, Refusal> {
     check_frame(message)?;
     let mut codes = Codes::default();
-    let overload = walk_field(message, OPTIONS, message.len(), &mut codes, &mut meet)?;
+    let overload = walk_field(message, Field::Options, message.len(), &mut codes, &mut meet)?;
     // "file is active when option 52 there is 1 or 3, sname when it is 2 or 3"
     if overload & 1 != 0 {
-        walk_field(message, FILE, COOKIE, &mut codes, &mut meet)?;
+        walk_field(message, Field::File, COOKIE, &mut codes, &mut meet)?;
     }
     if overload & 2 != 0 {
-        walk_field(message, SNAME, FILE, &mut codes, &mut meet)?;
+        walk_field(message, Field::Sname, FILE, &mut codes, &mut meet)?;
     }
     Ok(codes)
 }
@@ -70,16 +90,16 @@ pub fn walk(message: &[u8], mut meet: impl FnMut(Met)) -> Result<Codes, Refusal>
 /// value of option 52, or 0 if it was not met.
 fn walk_field(
     message: &[u8],
-    first: usize,
+    field: Field,
     after: usize,
     codes: &mut Codes,
     meet: &mut impl FnMut(Met),
 ) -> Result<u8, Refusal> {
-    let field = &message[..after];
+    let bytes = &message[..after];
     let mut overload = 0;
-    let mut place = first;
+    let mut place = first(field);
     // "Every active field needs its END."
-    while let Some(&code) = field.get(place) {
+    while let Some(&code) = bytes.get(place) {
         // "0 is a pad of one byte"
         if code == PAD {
             place += 1;
@@ -90,14 +110,14 @@ fn walk_field(
             return Ok(overload);
         }
         // "at one option 4, 6, 7"
-        let data = option_data(field, place)?;
+        let data = option_data(bytes, place)?;
         if code == OVERLOAD {
-            overload = overload_value(first, place, data)?;
+            overload = overload_value(field, place, data)?;
         }
         if !codes.add(code) {
             return refuse(7, place);
         }
-        meet(Met { code, place, length: data.len() });
+        meet(Met { code, field, place, length: data.len() });
         place += 2 + data.len();
     }
     refuse(5, after)
@@ -105,9 +125,9 @@ fn walk_field(
 
 /// "a code, followed by a length byte and that many data bytes, all in the
 /// same field"
-fn option_data(field: &[u8], place: usize) -> Result<&[u8], Refusal> {
-    if let Some(&length) = field.get(place + 1) {
-        if let Some(data) = field.get(place + 2..place + 2 + usize::from(length)) {
+fn option_data(bytes: &[u8], place: usize) -> Result<&[u8], Refusal> {
+    if let Some(&length) = bytes.get(place + 1) {
+        if let Some(data) = bytes.get(place + 2..place + 2 + usize::from(length)) {
             return Ok(data);
         }
     }
@@ -115,9 +135,9 @@ fn option_data(field: &[u8], place: usize) -> Result<&[u8], Refusal> {
 }
 
 /// "6: 52 in file or sname, or with a length not 1 or a value not 1 to 3"
-fn overload_value(first: usize, place: usize, data: &[u8]) -> Result<u8, Refusal> {
+fn overload_value(field: Field, place: usize, data: &[u8]) -> Result<u8, Refusal> {
     match *data {
-        [value] if first == OPTIONS && kinds::overload_fits(value) => Ok(value),
+        [value] if field == Field::Options && kinds::overload_fits(value) => Ok(value),
         _ => refuse(6, place),
     }
 }
@@ -140,30 +160,29 @@ fn find(message: &[u8], code: u8) -> Result<Option<Met>, Refusal> {
 /// "Look up a code (one byte), given the known set"
 pub fn lookup(message: &[u8], known: Codes, code: u8) -> Result<Lookup, Refusal> {
     match find(message, code)? {
-        Some(met) => answer(message, known, met),
+        Some(met) => Ok(Lookup::Found(met.origin(), content(message, known, met))),
         None => Ok(Lookup::Absent),
     }
 }
 
-fn answer(message: &[u8], known: Codes, met: Met) -> Result<Lookup, Refusal> {
+fn content(message: &[u8], known: Codes, met: Met) -> Content {
     // "A code is known when its bit is set and it has a row."
     let kind = match kinds::kind_of(met.code) {
         Some(kind) if known.has(met.code) => kind,
-        _ => return Ok(Lookup::Unknown(met.part())),
+        _ => return Content::Unknown(met.length),
     };
     let data = met.data(message);
     if let Err(fault) = kinds::judge(kind, met.code, data) {
-        return refuse(fault.number(), met.place);
+        return Content::Broken(Refusal { number: fault.number(), place: met.place });
     }
     if let Some(number) = kinds::number(kind, data) {
-        return Ok(Lookup::Number(kind, number));
+        return Content::Number(kind, number);
     }
-    let mut part = met.part();
     // "a text's length is without its trailing zeros"
     if kind == Kind::Text {
-        part.length = kinds::text_length(data);
+        return Content::Part(kind, kinds::text_length(data));
     }
-    Ok(Lookup::Part(kind, part))
+    Content::Part(kind, met.length)
 }
 
 /// "an empty part when the code is absent or the call is refused"
@@ -177,7 +196,9 @@ pub fn data(message: &[u8], code: u8) -> Part {
 /// "the text's part, or an empty part unless the lookup answers text"
 pub fn text(message: &[u8], known: Codes, code: u8) -> Part {
     match lookup(message, known, code) {
-        Ok(Lookup::Part(Kind::Text, part)) if part.length > 0 => part,
+        Ok(Lookup::Found(origin, Content::Part(Kind::Text, length))) if length > 0 => {
+            Part { start: origin.start, length }
+        }
         _ => EMPTY,
     }
 }

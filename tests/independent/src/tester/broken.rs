@@ -74,6 +74,18 @@ fn subjects() -> Vec<(&'static str, Subject)> {
         ("write changes the sheet", Subject { write: changes_sheet, ..own }),
         ("lookup changes the message", Subject { lookup: changes_message, ..own }),
         ("absent with a start", Subject { lookup: absent_with_start, ..own }),
+        ("absent with a field", Subject { lookup: absent_with_field, ..own }),
+        ("a refusal with a field", Subject { lookup: refusal_with_field, ..own }),
+        ("an unknown without its field", Subject { lookup: unknown_without_field, ..own }),
+        ("a number without its field", Subject { lookup: number_without_field, ..own }),
+        ("a number without its offset", Subject { lookup: number_without_offset, ..own }),
+        ("a number without its start", Subject { lookup: number_without_start, ..own }),
+        ("a number with a length", Subject { lookup: number_with_length, ..own }),
+        ("a part without its field", Subject { lookup: part_without_field, ..own }),
+        ("a text of zeros without its start", Subject { lookup: zeros_without_start, ..own }),
+        ("a broken answer without origin", Subject { lookup: broken_without_origin, ..own }),
+        ("a broken answer without its place", Subject { lookup: broken_without_place, ..own }),
+        ("a broken answer with a length", Subject { lookup: broken_with_length, ..own }),
         ("refused roll call with words", Subject { present: refused_with_words, ..own }),
         ("refused records with a size", Subject { records: refused_with_size, ..own }),
         ("refused write with a plan", Subject { write: refused_with_plan, ..own }),
@@ -143,7 +155,41 @@ unsafe extern "C" fn changes_message(
     boundary::independent_lookup(m, n, k0, k1, k2, k3, code)
 }
 
-unsafe extern "C" fn absent_with_start(
+/// A lookup whose answers of one status are changed.
+macro_rules! wrong_lookup {
+    ($name:ident, $status:expr, $member:ident: $value:expr $(, $more:ident: $other:expr)*) => {
+        unsafe extern "C" fn $name(
+            m: *const u8,
+            n: usize,
+            k0: u64,
+            k1: u64,
+            k2: u64,
+            k3: u64,
+            code: u8,
+        ) -> Answer {
+            let answer = boundary::independent_lookup(m, n, k0, k1, k2, k3, code);
+            if answer.status == $status {
+                return Answer { $member: $value $(, $more: $other)*, ..answer };
+            }
+            answer
+        }
+    };
+}
+
+wrong_lookup!(absent_with_start, 0, start: 242);
+wrong_lookup!(absent_with_field, 0, field: 1);
+wrong_lookup!(refusal_with_field, 2, field: 1);
+wrong_lookup!(unknown_without_field, 1, field: 0);
+wrong_lookup!(number_without_field, 3, field: 0);
+wrong_lookup!(number_without_offset, 3, offset: 0);
+wrong_lookup!(number_without_start, 3, start: 0);
+wrong_lookup!(number_with_length, 3, length: 1);
+wrong_lookup!(part_without_field, 4, field: 0);
+wrong_lookup!(broken_without_origin, 5, field: 0, offset: 0, start: 0);
+wrong_lookup!(broken_without_place, 5, place: 0);
+wrong_lookup!(broken_with_length, 5, length: 1);
+
+unsafe extern "C" fn zeros_without_start(
     m: *const u8,
     n: usize,
     k0: u64,
@@ -153,7 +199,8 @@ unsafe extern "C" fn absent_with_start(
     code: u8,
 ) -> Answer {
     let answer = boundary::independent_lookup(m, n, k0, k1, k2, k3, code);
-    Answer { start: if answer.status == 0 { n } else { answer.start }, ..answer }
+    let zeros = answer.status == 4 && answer.kind == 10 && answer.length == 0;
+    Answer { start: if zeros { 0 } else { answer.start }, ..answer }
 }
 
 unsafe extern "C" fn refused_with_words(m: *const u8, n: usize) -> Present {

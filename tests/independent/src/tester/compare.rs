@@ -215,7 +215,7 @@ impl Run {
 
         let answer = unsafe { (self.subject.lookup)(m, n, k0, k1, k2, k3, code) };
         let ours = (self.yardstick.lookup)(self.input.middle(), known, code);
-        self.counts.lookup(code, &answer);
+        self.counts.lookup(self.input.middle(), code, &answer);
         self.equal(|| name("lookup"), &answer, &ours);
 
         let data = unsafe { (self.subject.data)(m, n, code) };

@@ -8,6 +8,9 @@ use independent::rules::reading::{COOKIE, FILE, OPTIONS, OVERLOAD, SNAME};
 /// How often each possible answer is to come in the short mode.
 const LEAST: u64 = 100;
 
+/// The answers that an option without data can have, by status. (A number has data.)
+const STATUS_EMPTY: [(usize, &str); 3] = [(1, "unknown"), (4, "68"), (5, "broken")];
+
 /// Refusals by number; at 0 the calls that were not refused.
 type Refusals = [u64; 17];
 
@@ -21,8 +24,16 @@ pub struct Counts {
     present: Refusals,
     records: Refusals,
     write: Refusals,
-    status: [u64; 5],
-    kind: [u64; 12],
+    /// Lookups by status and field: none, options, file, sname.
+    status: [[u64; 4]; 6],
+    /// Answers with a kind, by kind and field.
+    kind: [[u64; 3]; 12],
+    /// Broken answers, by number (8, 9) and field.
+    broken: [[u64; 3]; 2],
+    /// Answers of options without data, by status and field.
+    empty: [[u64; 3]; 6],
+    /// Answers of options that leave their field room for END alone, by field.
+    last: [u64; 3],
     answered: [u64; 256],
     unknown: [u64; 256],
     absent: [u64; 256],
@@ -55,8 +66,11 @@ impl Counts {
             present: [0; 17],
             records: [0; 17],
             write: [0; 17],
-            status: [0; 5],
-            kind: [0; 12],
+            status: [[0; 4]; 6],
+            kind: [[0; 3]; 12],
+            broken: [[0; 3]; 2],
+            empty: [[0; 3]; 6],
+            last: [0; 3],
             answered: [0; 256],
             unknown: [0; 256],
             absent: [0; 256],
@@ -75,21 +89,38 @@ impl Counts {
         }
     }
 
-    pub fn lookup(&mut self, code: u8, answer: &Answer) {
+    pub fn lookup(&mut self, message: &[u8], code: u8, answer: &Answer) {
         let code = usize::from(code);
+        let status = answer.status as usize;
         self.calls += 1;
-        add(&mut self.lookup, answer.refusal as usize);
-        add(&mut self.status, answer.status as usize);
-        match (answer.status, answer.refusal) {
+        add(&mut self.lookup, if status == 2 { answer.refusal as usize } else { 0 });
+        add_at(&mut self.status, status, answer.field as usize);
+        match (status, answer.refusal) {
             (0, _) => self.absent[code] += 1,
             (1, _) => self.unknown[code] += 1,
-            (2, 8) => self.lookup_8[code] += 1,
-            (2, 9) => self.lookup_9[code] += 1,
             (2, _) => (),
-            _ => {
-                self.answered[code] += 1;
-                add(&mut self.kind, answer.kind as usize);
-            }
+            (5, 8) => self.lookup_8[code] += 1,
+            (5, _) => self.lookup_9[code] += 1,
+            _ => self.answered[code] += 1,
+        }
+        let field = match answer.field {
+            1 => 0,
+            2 => 1,
+            3 => 2,
+            _ => return,
+        };
+        match status {
+            3 | 4 => add_at(&mut self.kind, answer.kind as usize, field),
+            5 => add_at(&mut self.broken, (answer.refusal as usize).wrapping_sub(8), field),
+            _ => (),
+        }
+        let Some(&length) = message.get(answer.start.wrapping_sub(1)) else { return };
+        let length = usize::from(length);
+        if length == 0 {
+            add_at(&mut self.empty, status, field);
+        }
+        if answer.start + length + 1 == [message.len(), COOKIE, FILE][field] {
+            self.last[field] += 1;
         }
     }
 
@@ -188,12 +219,22 @@ impl Counts {
         print_refusals("present", &self.present);
         print_refusals("records", &self.records);
         print_refusals("write", &self.write);
-        let [absent, unknown, refused, number, part] = self.status;
-        println!(
-            "lookup: absent {absent}, unknown {unknown}, refused or broken {refused}, \
-             number {number}, part {part}"
-        );
-        println!("lookup by kind 1 to 11: {:?}", &self.kind[1..]);
+        let [absent, unknown, refused, number, part, broken] = self.status;
+        println!("lookup: absent {}, refused {}", absent[0], refused[0]);
+        println!("lookup in options, file, sname:");
+        for (what, fields) in
+            [("unknown", unknown), ("number", number), ("part", part), ("broken", broken)]
+        {
+            println!("  {what}: {:?}", &fields[1..]);
+        }
+        for (i, fields) in self.kind.iter().enumerate().skip(1) {
+            println!("  kind {i}: {fields:?}");
+        }
+        println!("  broken by 8: {:?}, by 9: {:?}", self.broken[0], self.broken[1]);
+        for (status, what) in STATUS_EMPTY {
+            println!("  {what} of length 0: {:?}", self.empty[status]);
+        }
+        println!("  with room for END alone behind it: {:?}", self.last);
         for (i, number) in (4..=7).enumerate() {
             println!("present: {number} in options, file, sname: {:?}", self.fault[i]);
         }
@@ -228,12 +269,20 @@ impl Counts {
     /// What came too seldom.
     pub fn missing(&self) -> Vec<String> {
         let mut missing = Missing(Vec::new());
-        missing.refusals("lookup", &self.lookup, &[0, 1, 2, 3, 4, 5, 6, 7, 8, 9, 10]);
+        missing.refusals("lookup", &self.lookup, &[0, 1, 2, 3, 4, 5, 6, 7, 10]);
         missing.refusals("present", &self.present, &[0, 1, 2, 3, 4, 5, 6, 7]);
         missing.refusals("records", &self.records, &[0, 1, 2, 3, 4, 5, 6, 7, 11]);
         missing.refusals("write", &self.write, &[0, 1, 2, 7, 8, 9, 10, 11, 12, 13, 14, 15, 16]);
-        missing.all("lookup status", &self.status);
-        missing.all("lookup kind", &self.kind[1..]);
+        missing.origins(&self.status);
+        for (i, fields) in self.kind.iter().enumerate().skip(1) {
+            missing.all(&format!("lookup kind {i} by field"), fields);
+        }
+        missing.all("lookup broken by 8 by field", &self.broken[0]);
+        missing.all("lookup broken by 9 by field", &self.broken[1]);
+        for (status, what) in STATUS_EMPTY {
+            missing.all(&format!("lookup {what} of length 0 by field"), &self.empty[status]);
+        }
+        missing.all("lookup of an option last in its field", &self.last);
         for (i, fields) in self.fault.iter().enumerate() {
             missing.all(&format!("present refusal {} by field", i + 4), fields);
         }
@@ -256,6 +305,12 @@ impl Counts {
         missing.codes("write 8", breaks_length, &self.write_8);
         missing.codes("write 9", breaks_value, &self.write_9);
         missing.0
+    }
+}
+
+fn add_at<const N: usize>(counts: &mut [[u64; N]], row: usize, at: usize) {
+    if let Some(counts) = counts.get_mut(row) {
+        add(counts, at);
     }
 }
 
@@ -310,6 +365,18 @@ impl Missing {
     fn all(&mut self, what: &str, counts: &[u64]) {
         for (i, &count) in counts.iter().enumerate() {
             self.one(&format!("{what} ({i})"), count);
+        }
+    }
+
+    /// An absent code and a refusal come from no field, every other answer from one.
+    fn origins(&mut self, status: &[[u64; 4]; 6]) {
+        for (i, fields) in status.iter().enumerate() {
+            let (possible, other) =
+                if let 0 | 2 = i { fields.split_at(1) } else { (&fields[1..], &fields[..1]) };
+            self.all(&format!("lookup status {i} by field"), possible);
+            if other.iter().any(|&count| count > 0) {
+                self.0.push(format!("lookup status {i} came from an impossible field"));
+            }
         }
     }
 

@@ -38,6 +38,15 @@ fieldNumber options = 1
 fieldNumber file = 2
 fieldNumber sname = 3
 
+-- "where there are several pieces the answer also says so, with the whole joined length" (request 02)
+abbrev pub plainWhole : asked.Wholeness → ℕ
+plainWhole asked.inOne = 0
+plainWhole (asked.inPieces n) = n
+
+abbrev pub plainSeveral : asked.Wholeness → ℕ
+plainSeveral asked.inOne = 0
+plainSeveral (asked.inPieces n) = 1
+
 -- an answer with its origin; of what is broken the place is its code byte's
 abbrev pub plainFound : asked.Origin → PlainContent → PlainAnswer
 plainFound g x =
@@ -51,12 +60,14 @@ plainFound g x =
       offset = g .offset;
       start = asked.startOf g;
       length = x .length;
+      whole = plainWhole (g .wholeness);
+      several = plainSeveral (g .wholeness);
     }
 
 -- status 0 absent, 2 refused
 abbrev pub plainRefusal : ℕ → ℕ → ℕ → PlainAnswer
 plainRefusal status n p =
-    record { status = status; kind = 0; refusal = n; field = 0; number = pos 0; place = p; offset = 0; start = 0; length = 0 }
+    record { status = status; kind = 0; refusal = n; field = 0; number = pos 0; place = p; offset = 0; start = 0; length = 0; whole = 0; several = 0 }
 
 abbrev pub plainAnswer : asked.Answer → PlainAnswer
 plainAnswer asked.Absent = plainRefusal 0 0 0
@@ -94,8 +105,12 @@ plainFilled (asked.declined n p) = record { refusal = n; size = 0; place = p }
 abbrev pub fieldAt : ℕ → Field
 fieldAt n = cond (eqb n 1) options (cond (eqb n 2) file sname)
 
+-- in several pieces, or in one
+abbrev pub wholenessFrom : PlainAnswer → asked.Wholeness
+wholenessFrom a = cond (eqb (a .several) 0) asked.inOne (asked.inPieces (a .whole))
+
 abbrev pub originFrom : PlainAnswer → asked.Origin
-originFrom a = record { field = fieldAt (a .field); offset = a .offset }
+originFrom a = record { field = fieldAt (a .field); offset = a .offset; wholeness = wholenessFrom a }
 
 abbrev pub contentFrom : PlainAnswer → asked.Content
 contentFrom a =
@@ -149,7 +164,10 @@ givenFrom f = cond (eqb (f .refusal) 0) (asked.given (f .size)) (asked.declined 
 abbrev pub FilledKept : Type 0
 FilledKept = (m old : List ℕ) → givenFrom (plainFilled (asked.records m old .answer)) ≡ asked.records m old .answer
 
--- refusal and place are those of a refusal or of what is broken, and 0 and 0 elsewhere; an answer from no option has field, offset and start 0
+abbrev pub CopyKept : Type 0
+CopyKept = (m : List ℕ) (c : ℕ) (old : List ℕ) → givenFrom (plainFilled (asked.copy m c old .answer)) ≡ asked.copy m c old .answer
+
+-- refusal and place are those of a refusal or of what is broken, and 0 and 0 elsewhere
 pub record VerdictTold (a : asked.Answer) : Type 0 where
   pub refusal-told : plainAnswer a .refusal ≡ refusalOf (asked.verdictOf a)
   pub place-told : plainAnswer a .place ≡ placeOf (asked.verdictOf a)
@@ -157,17 +175,24 @@ pub record VerdictTold (a : asked.Answer) : Type 0 where
 abbrev pub VerdictKept : Type 0
 VerdictKept = (a : asked.Answer) → VerdictTold a
 
-abbrev pub FromNoOption : asked.Answer → Type 0
-FromNoOption a = (plainAnswer a .field ≡ 0) × (plainAnswer a .offset ≡ 0) × (plainAnswer a .start ≡ 0)
+-- an answer from no option has field, offset and start 0, and tells of no pieces
+pub record FromNoOption (a : asked.Answer) : Type 0 where
+  pub no-field : plainAnswer a .field ≡ 0
+  pub no-offset : plainAnswer a .offset ≡ 0
+  pub no-start : plainAnswer a .start ≡ 0
+  pub no-whole : plainAnswer a .whole ≡ 0
+  pub no-several : plainAnswer a .several ≡ 0
 
 abbrev pub NoOriginTold : Type 0
 NoOriginTold = FromNoOption asked.Absent × ((n p : ℕ) → FromNoOption (asked.Refused n p))
 
--- "a member that an answer does not need is 0", by its status: kind where it is 3 or 4, number where it is 3, length where it is 1 or 4
+-- "a member that an answer does not need is 0", by its status: kind where it is 3 or 4, number where it is 3, length where it is 1 or 4; whole where
+-- several is 1, which else is 0
 pub record NeedlessIsZero (a : PlainAnswer) : Type 0 where
   pub no-kind : (a .status ≡ 3 → ⊥) → (a .status ≡ 4 → ⊥) → a .kind ≡ 0
   pub no-number : (a .status ≡ 3 → ⊥) → a .number ≡ pos 0
   pub no-length : (a .status ≡ 1 → ⊥) → (a .status ≡ 4 → ⊥) → a .length ≡ 0
+  pub one-or-several : (a .several ≡ 1 → ⊥) → (a .several ≡ 0) × (a .whole ≡ 0)
 
 abbrev pub NeedlessMembers : Type 0
 NeedlessMembers = (a : asked.Answer) → NeedlessIsZero (plainAnswer a)

@@ -1,6 +1,7 @@
 pub mod Rooms
 pub mod Within
-pub mod Overload
+pub mod Codes
 pub mod Laying
+pub mod Joining
 pub mod AcceptedEnds
 pub mod Outcomes

@@ -6,14 +6,18 @@ ghost use lib.Dec.{ltb};
 ghost use lib.ListN.{length};
 ghost use Rattle.options.specs.Answers as answers;
 ghost use Rattle.buffer.specs.Written.{laid, Written};
-ghost use Rattle.records.specs.Fill.{Fills};
-ghost use Rattle.records.specs.FieldRecords.{shortRecord, optionRecord, fieldEnds, fieldRecords, ActiveEnds, activeRecords, room52};
-
-// What is given (document 01, What is asked of a message; Numbers given on refusal): how many bytes of the buffer the records take, or a refusal.
-pub enum Given {
-    Bytes(usize),
-    Refused { number: u32, place: usize },
-}
+ghost use Rattle.options.specs.Answers.{recordBytes};
+ghost use Rattle.options.specs.CodeSet.{withMark, countOf};
+ghost use Rattle.message.specs.Scan.{surveyOf};
+ghost use Rattle.message.specs.Active.{activeOptions};
+ghost use Rattle.gather.specs.Joined.{joinedFrom};
+ghost use Rattle.filled.specs.Fill.{Fills};
+ghost use Rattle.records.specs.FieldRecords.{shortRecord, optionRecord, fieldEnds, fieldRecords, ActiveEnds, activeRecords};
+ghost use Rattle.records.specs.JoinedRecords.{longRecord, firstRecord, sheetFrom, only52, head52, needed, held};
+use cursor::Position;
+use cursor::Step;
+use filled::Given;
+use message::Scanned;
 
 // Lays one record over out from at on. Data of an option has fewer than 256 bytes, so the length's high byte is 0.
 // The part lent to `copy` is as long as body: so the compiler sees that the data fits, and drops its test.
@@ -86,51 +90,120 @@ fn put_active(m: &[u8], v: u32, out: &mut [u8]) -> usize
     put_if(message::sname_on(v), &m[44..108], out, b)
 }
 
-// A buffer's length beside what all options take as records: option 52, which takes 4 bytes as one, is not written.
-fn with_52(n: usize, over: u32) -> usize
-    requires { ⌜ n ≤ 2 ^ 63 ⌝ }
-    ensures { λ r. ⌜ r ≡ n + room52 over ⌝ }
+// Lays the record of the code of an option that stands at a position: the data of all pieces from there on.
+fn put_joined(m: &[u8], over: u32, from: Position, code: u8, out: &mut [u8], at: usize) -> usize
+    requires { ⌜ (at + 3 + length (joinedFrom over (now m) from code) ≤ length (now out)) × (length (joinedFrom over (now m) from code) < 65536) ⌝ }
+    ensures { λ r. ⌜ Written (now (out .entry)) at (longRecord code (joinedFrom over (now (m .entry)) from code)) r (now (out .exit)) ⌝ }
 {
-    if over == 0 {
-        return n;
-    }
-    n + 4
+    let a = at + 3;
+    let e = gather::gather(m, over, from, code, out, a);
+    let n = e - a;
+    out[at] = code;
+    out[at + 1] = (n / 256) as u8;
+    out[at + 2] = (n % 256) as u8;
+    e
 }
 
-// Whether n bytes are too few for the records: each takes one byte more than its option does in its field.
-fn too_small(n: usize, used: usize, count: u32, over: u32) -> bool
-    requires { ⌜ n ≤ 2 ^ 63 ⌝ }
-    ensures { λ r. ⌜ r ≡ ltb (n + room52 over) (used + count) ⌝ }
+// The same, where the code has no record yet: the lent set has those that do.
+fn put_first(
+    m: &[u8],
+    over: u32,
+    from: Position,
+    code: u8,
+    written: &mut [u64; 4],
+    out: &mut [u8],
+    at: usize,
+) -> usize
+    requires { ⌜ (at + length (firstRecord (now written) code (joinedFrom over (now m) from code)) ≤ length (now out)) × (length (firstRecord (now written) code (joinedFrom over (now m) from code)) < 65536) ⌝ }
+    ensures { λ r. ⌜ Written (now (out .entry)) at (firstRecord (now (written .entry)) code (joinedFrom over (now (m .entry)) from code)) r (now (out .exit)) × (now (written .exit) ≡ withMark (now (written .entry)) code) ⌝ }
 {
-    let a = with_52(n, over);
-    if a < used {
-        return true;
+    if codeset::contains(*written, code) {
+        return at;
     }
-    if a - used < count as usize {
-        return true;
-    }
-    false
+    codeset::mark(written, code);
+    put_joined(m, over, from, code, out, at)
 }
 
-// The records of a message (document 01, Sheet of a message): one walk that judges and measures, then one that writes.
+// Lays the records of a message in which a code has several pieces, each at its first piece's turn. 52 is no record.
+fn put_codes(m: &[u8], over: u32, out: &mut [u8]) -> usize
+    requires { ⌜ (length (recordBytes (sheetFrom only52 (activeOptions over (now m)))) ≤ length (now out)) × (length (recordBytes (sheetFrom only52 (activeOptions over (now m)))) < 65536) ⌝ }
+    ensures { λ r. ⌜ Written (now (out .entry)) 0 (recordBytes (sheetFrom only52 (activeOptions over (now (m .entry))))) r (now (out .exit)) ⌝ }
+{
+    let mut written = [0; 4];
+    codeset::mark(&mut written, 52);
+    let mut o = 0;
+    let mut from = cursor::first();
+    loop {
+        let Step::Item {
+            field,
+            offset,
+            code,
+            len,
+        } = cursor::next_option(m, over, from)
+        else {
+            return o;
+        };
+        o = put_first(m, over, from, code, &mut written, out, o);
+        from = Position {
+            field,
+            offset: offset + 2 + len,
+        };
+    }
+}
+
+// 3 where option 52 was met, whose data then start at s: its code and length in a record.
+fn head_52(s: usize) -> usize
+    ensures { λ r. ⌜ (r ≡ head52 s) × (r ≤ 3) ⌝ }
+{
+    if s == 0 {
+        return 0;
+    }
+    3
+}
+
+// Whether n bytes are too few for the records: what all options take in their fields, with a record's head for each code and without that of each piece
+// and without option 52, of which t tells.
+fn too_small(n: usize, t: Scanned, codes: u32) -> bool
+    requires { ⌜ (n ≤ 2 ^ 63) × (t .used ≤ 65536) × (t .count ≤ 65536) × (t .whole ≤ 65536) ⌝ }
+    ensures { λ r. ⌜ r ≡ ltb (held n t) (needed t codes) ⌝ }
+{
+    let need = t.used + codes as usize * 3;
+    let have = n + t.count * 2 + t.whole + head_52(t.start);
+    have < need
+}
+
+// The records of an accepted message, of which t tells, and which has so many codes, in a buffer that is large enough.
+fn put_records(m: &[u8], t: Scanned, codes: u32, out: &mut [u8]) -> Given
+    requires { ⌜ (t .number ≡ 0) × (t ≡ surveyOf (now m)) × (codes ≡ countOf (answers.present (now m) .words)) × (needed t codes ≤ held (length (now out)) t) ⌝ }
+    ensures { λ r. ⌜ Fills (answers.records (now (m .entry)) (now (out .entry))) r (now (out .exit)) ⌝ }
+{
+    let over = t.over;
+    if t.count == codes as usize {
+        return Given::Bytes(put_active(m, over, out));
+    }
+    Given::Bytes(put_codes(m, over, out))
+}
+
+// The records of a message (document 01, Sheet of a message; document 02, request 02): one walk that judges and measures, then one that writes. Where no
+// code has several pieces, that is each option as it comes.
 pub fn records(m: &[u8], out: &mut [u8]) -> Given
     ensures { λ r. ⌜ Fills (answers.records (now (m .entry)) (now (out .entry))) r (now (out .exit)) ⌝ }
 {
     let mut seen = [0; 4];
-    let w = message::scan(m, 0, &mut seen);
+    let w = message::codes(m, &mut seen);
     if w.number != 0 {
         return Given::Refused {
             number: w.number,
             place: w.place,
         };
     }
-    let v = w.over;
+    let codes = codeset::count(seen);
     let n = out.len();
-    if too_small(n, w.used, codeset::count(seen), v) {
+    if too_small(n, w, codes) {
         return Given::Refused {
             number: 11,
             place: n,
         };
     }
-    Given::Bytes(put_active(m, v, out))
+    put_records(m, w, codes, out)
 }

@@ -184,23 +184,81 @@ fn origin_at(place: usize, wholeness: Wholeness) -> Origin
     }
 }
 
-// Both: what is answered of a code that comes in several pieces, once the message was walked. The pieces lie apart, so their bytes are gathered in a buffer
-// of the function's own: where the kind looks at few of them, in one of four.
-fn by_head(m: &[u8], k: u8, code: u8, w: Scanned) -> Content
-    requires { ⌜ (isList (kindAt k) ≡ false) × (w .whole ≡ length (joinedFrom (w .over) (now m) firstPosition code)) ⌝ }
-    ensures { λ r. ⌜ contentOf r ≡ asked.known (judged (kindAt k) code (joinedFrom (w .over) (now (m .entry)) firstPosition code)) ⌝ }
+// The data of the option whose code byte stands at a place of the message.
+fn piece(m: &[u8], place: usize) -> &[u8]
+    requires { ⌜ place + 2 + getD (now m) (place + 1) 0 ≤ length (now m) ⌝ }
+    ensures { λ r. ⌜ now r ≡ take (getD (now (m .entry)) (place + 1) 0) (drop (place + 2) (now (m .entry))) ⌝ }
+{
+    let start = place + 2;
+    let end = start + num::wide(m[place + 1]);
+    &m[start..end]
+}
+
+// Byte i of two parts, the one behind the other; 0 past their end.
+fn byte_of(a: &[u8], b: &[u8], i: usize) -> u8
+    ensures { λ r. ⌜ r ≡ getD (now (a .entry) ++ now (b .entry)) i 0 ⌝ }
+{
+    if i < a.len() {
+        return a[i];
+    }
+    num::byte(b, i - a.len())
+}
+
+// What is answered of a code whose bytes are two parts.
+fn two_by_head(k: u8, code: u8, a: &[u8], b: &[u8]) -> Content
+    requires { ⌜ isList (kindAt k) ≡ false ⌝ }
+    ensures { λ r. ⌜ contentOf r ≡ asked.known (judged (kindAt k) code (now (a .entry) ++ now (b .entry))) ⌝ }
+{
+    let head = [
+        byte_of(a, b, 0),
+        byte_of(a, b, 1),
+        byte_of(a, b, 2),
+        byte_of(a, b, 3),
+    ];
+    judge_head(k, code, a.len() + b.len(), &head)
+}
+
+// Both: the bytes of a code in several pieces.
+fn by_gather(m: &[u8], k: u8, code: u8, w: Scanned) -> Content
 {
     let mut head = [0u8; 4];
     let h = gather::gather(m, w.over, cursor::first(), code, &mut head, 0);
     judge_head(k, code, w.whole, &head[..h])
 }
 
+fn by_head(m: &[u8], k: u8, code: u8, w: Scanned) -> Content
+{
+    let first = piece(m, w.start - 2);
+    let last = piece(m, w.last);
+    if first.len() + last.len() == w.whole {
+        return two_by_head(k, code, first, last);
+    }
+    by_gather(m, k, code, w)
+}
+
+fn put_two(a: &[u8], b: &[u8], out: &mut [u8]) -> usize
+{
+    let n = a.len();
+    let e = n + b.len();
+    buffer::copy(&mut out[..n], a);
+    buffer::copy(&mut out[n..e], b);
+    e
+}
+
+fn put_pieces(m: &[u8], code: u8, w: Scanned, out: &mut [u8]) -> usize
+{
+    let first = piece(m, w.start - 2);
+    let last = piece(m, w.last);
+    if first.len() + last.len() == w.whole {
+        return put_two(first, last, out);
+    }
+    gather::gather(m, w.over, cursor::first(), code, out, 0)
+}
+
 fn by_list(m: &[u8], k: u8, code: u8, w: Scanned) -> Content
-    requires { ⌜ (isList (kindAt k) ≡ true) × (length (joinedFrom (w .over) (now m) firstPosition code) ≤ 1472) ⌝ }
-    ensures { λ r. ⌜ contentOf r ≡ asked.known (judged (kindAt k) code (joinedFrom (w .over) (now (m .entry)) firstPosition code)) ⌝ }
 {
     let mut joined = [0u8; 1472];
-    let n = gather::gather(m, w.over, cursor::first(), code, &mut joined, 0);
+    let n = put_pieces(m, code, w, &mut joined);
     judge_list(k, code, n, &joined[..n])
 }
 
@@ -243,7 +301,7 @@ fn answer_in(m: &[u8], known: [u64; 4], code: u8, w: Scanned) -> Answer
         return Answer::Absent;
     }
     let k = known_kind(known, code);
-    if 1 < w.pieces {
+    if w.last + 2 != start {
         return in_pieces(m, k, code, w);
     }
     let end = start + w.whole;
@@ -287,7 +345,7 @@ fn data_in(m: &[u8], code: u8, w: Scanned) -> Extent
     requires { ⌜ (code ≡ 0 → ⊥) × (code ≡ 255 → ⊥) × (w ≡ scanOf code (now m)) ⌝ }
     ensures { λ r. ⌜ extentOf r ≡ asked.dataOf (now (m .entry)) code ⌝ }
 {
-    if 2 <= w.pieces {
+    if w.last + 2 != w.start {
         return Extent { start: 0, len: 0 };
     }
     clip(w.start, w.whole)
@@ -324,7 +382,7 @@ fn text_in(m: &[u8], set: [u64; 4], code: u8, w: Scanned) -> Extent
     if start == 0 {
         return Extent { start: 0, len: 0 };
     }
-    if 1 < w.pieces {
+    if w.last + 2 != start {
         return Extent { start: 0, len: 0 };
     }
     if !kinds::is_text(code) {
@@ -382,10 +440,10 @@ fn copy_in(m: &[u8], code: u8, w: Scanned, out: &mut [u8]) -> Given
             place: room,
         };
     }
-    if w.pieces == 1 {
+    if w.last + 2 == w.start {
         return Given::Bytes(text::put_word(out, 0, message::part(m, w.start, w.whole)));
     }
-    Given::Bytes(gather::gather(m, w.over, cursor::first(), code, out, 0))
+    Given::Bytes(put_pieces(m, code, w, out))
 }
 
 // Copies the bytes of a code, those of all its pieces end to end, to the front of a lent buffer, and gives their number (document 02, request 02).

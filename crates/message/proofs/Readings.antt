@@ -14,7 +14,7 @@ use Rattle.theorems.proofs.View.{clash}
 use Rattle.theorems.proofs.CodesPresent.{all-field}
 use Rattle.message.specs.declared.Scanned.{Scanned}
 use Rattle.message.specs.Active.{activeIn}
-use Rattle.message.specs.Scan.{firstStart, usedBy, refusedAt, scanIn}
+use Rattle.message.specs.Scan.{firstStart, placeAfter, usedBy, refusedAt, scanIn}
 use Rattle.message.specs.declared.Walked.{Walked}
 use Rattle.message.specs.Walk.{Run, Walk, nothing, begun, walkOf, walkedOf}
 use Rattle.message.specs.Walking.{unfitOf, numberOf, scannedOf, walkField, step, allWalked, othersIn, Gives, Scans}
@@ -124,7 +124,7 @@ module _ (w : List ℕ) (marks : Bool) (want : ℕ) (y : Watching w want) (m : L
       let a = x .1 in
       let c : k .run .kept .start ≡ firstStart (pieces want os) = first-is (k .run .kept .start) (pieces want os) (a .start-is) in
       let d : k .run .kept .whole ≡ length (endToEnd (pieces want os)) = omega (arith, a .whole-is) in
-      let e : k .run .kept .pieces ≡ length (pieces want os) = omega (arith, a .pieces-is) in
+      let e : k .run .kept .last ≡ placeAfter 0 (pieces want os) = a .last-is in
       let u : k .run .used ≡ usedBy os = omega (arith, a .used-is) in
       let n : cond marks (k .run .count) 0 ≡ cond marks (length os) 0 = counted marks refl a in
       rw (eq-eqb (k .end) 0 (x .0), c, d, e, u, n, x .2) refl

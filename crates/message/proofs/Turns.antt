@@ -99,7 +99,7 @@ module _ (w : List ℕ) (marks : Bool) (want : ℕ) (m : List ℕ) where
     pub same : onFrom fd (runOf set′ s) ≡ allWalked w marks want m set
 
   few-none : (s : Walked) → s ≡ stoppedAt 0 0 → Few 0 s
-  few-none s e = rw e (record { whole = omega arith; pieces = omega arith; used = omega arith; count = omega arith })
+  few-none s e = rw e (record { whole = omega arith; used = omega arith; count = omega arith })
 
   pub turning-begins : (set : List ℕ) (s : Walked) → s ≡ stoppedAt 0 0 → Turning set set s 0 240 (length m)
   unfolding allWalked
@@ -173,7 +173,7 @@ module _ (w : List ℕ) (marks : Bool) (want : ℕ) (m : List ℕ) where
         turning-few e =
             let f = z .few (65536 * turn) (y .few) in
             let g = turning-less e in
-            record { whole = omega (arith, f .whole); pieces = omega (arith, f .pieces); used = omega (arith, f .used); count = omega (arith, f .count) }
+            record { whole = omega (arith, f .whole); used = omega (arith, f .used); count = omega (arith, f .count) }
 
         pub turning-file : (e : n ≡ 3 → ⊥) → n ≡ 1 → Turning set set″ r n 108 236
         turning-file e o =

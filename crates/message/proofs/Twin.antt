@@ -7,12 +7,12 @@ use native.Mathlib.Omega.{arith}
 use lib.Dec.{eqb, leb}
 use lib.ListN.{length, getD, length-append}
 use borrow.Author.Tests.{eq-eqb, ne-eqb, eqb-true, eqb-false}
-use Rattle.options.specs.Message.{Field, options, file, sname, start, Rec, Opt, dataStart, endToEnd}
+use Rattle.options.specs.Message.{Field, options, file, sname, start, Rec, Opt, place, dataStart, endToEnd}
 use Rattle.options.specs.Reading.{Parse, ended, ranOut, beyond, found, span, cut, recordOf, itemOf, parse, isOptions, right52, wrong52, second52, either, judge, more, Reading, accepted, refused, items, overload, pieces}
 use Rattle.options.specs.CodeSet.{marked, withMark}
 use Rattle.options.specs.KindClaims.{AllBytes}
 use Rattle.message.specs.declared.Kept.{Kept}
-use Rattle.message.specs.Scan.{usedBy}
+use Rattle.message.specs.Scan.{placeAfter, usedBy}
 use Rattle.message.specs.Walk.{tallied, setAfter, Run, Walk, overStop, overAfter, keptAfter, met, passed, done, stop, walkOf}
 use Rattle.message.specs.Walking.{numberOf, othersIn}
 use Rattle.message.proofs.Walks.{other-code}
@@ -76,12 +76,12 @@ No52 (o ∷ os) = (eqb (o .item .tag) 52 ≡ false) × No52 os
 -- where the data of the first piece start, with what was kept before
 abbrev pub firstFrom : Kept → List Opt → ℕ
 firstFrom k [] = k .start
-firstFrom k (o ∷ os) = cond (eqb (k .pieces) 0) (dataStart o) (k .start)
+firstFrom k (o ∷ os) = cond (eqb (k .start) 0) (dataStart o) (k .start)
 
 pub record Adds (marks : Bool) (want : ℕ) (s : Run) (os : List Opt) (r : Run) : Type 0 where
   pub start-is : r .kept .start ≡ firstFrom (s .kept) (pieces want os)
   pub whole-is : r .kept .whole ≡ s .kept .whole + length (endToEnd (pieces want os))
-  pub pieces-is : r .kept .pieces ≡ s .kept .pieces + length (pieces want os)
+  pub last-is : r .kept .last ≡ placeAfter (s .kept .last) (pieces want os)
   pub used-is : r .used ≡ s .used + usedBy os
   pub count-is : marks ≡ true → r .count ≡ s .count + length os
   pub set-is : marks ≡ true → want ≡ 52 → r .set ≡ othersIn (s .set) os
@@ -110,30 +110,38 @@ unfolding othersIn
 others-append set [] ps = refl
 others-append set (o ∷ os) ps = others-append (cond (eqb (o .item .tag) 52) set (withMark set (o .item .tag))) os ps
 
-first-append : (k r : Kept) (xs ys : List Opt) → r .start ≡ firstFrom k xs → r .pieces ≡ k .pieces + length xs → firstFrom r ys ≡ firstFrom k (xs ++ ys)
-first-append k r [] [] a b = a
-first-append k r [] (y ∷ ys) a b = let z : r .pieces ≡ k .pieces = omega (arith, b) in rw (z, a) refl
-first-append k r (x ∷ xs) [] a b = a
-first-append k r (x ∷ xs) (y ∷ ys) a b = rw (ne-eqb (r .pieces) 0 (λ e. omega (arith, b, e))) a
+first-append : (k r : Kept) (xs ys : List Opt) → r .start ≡ firstFrom k xs → firstFrom r ys ≡ firstFrom k (xs ++ ys)
+first-append k r [] [] a = a
+first-append k r [] (y ∷ ys) a = rw a refl
+first-append k r (x ∷ xs) [] a = a
+first-append k r (x ∷ xs) (y ∷ ys) a = go (eqb (k .start) 0) refl a
+  where
+    go : (b : Bool) → eqb (k .start) 0 ≡ b → r .start ≡ cond b (dataStart x) (k .start) → cond (eqb (r .start) 0) (dataStart y) (r .start) ≡ cond b (dataStart x) (k .start)
+    go true e h = rw (ne-eqb (r .start) 0 (λ z. omega (arith, h, z))) h
+    go false e h = rw (ne-eqb (r .start) 0 (λ z. eqb-false (k .start) 0 e (sym h ∙ z))) h
+
+last-append : (p : ℕ) (xs ys : List Opt) → placeAfter p (xs ++ ys) ≡ placeAfter (placeAfter p xs) ys
+unfolding placeAfter
+last-append p [] ys = refl
+last-append p (x ∷ xs) ys = last-append (place x) xs ys
 
 pub adds-then : {marks : Bool} {want : ℕ} {s : Run} {os : List Opt} {r : Run} {ps : List Opt} {t : Run} → Adds marks want s os r → Adds marks want r ps t → Adds marks want s (os ++ ps) t
 adds-then {marks} {want} {s} {os} {r} {ps} {t} a b =
     let p = pieces-append want os ps in
     let l : length (endToEnd (pieces want (os ++ ps))) ≡ length (endToEnd (pieces want os)) + length (endToEnd (pieces want ps)) = ap (λ (x : List Opt). length (endToEnd x)) p ∙ ap length (ends-append (pieces want os) (pieces want ps)) ∙ length-append (endToEnd (pieces want os)) (endToEnd (pieces want ps)) in
-    let q : length (pieces want (os ++ ps)) ≡ length (pieces want os) + length (pieces want ps) = ap length p ∙ length-append (pieces want os) (pieces want ps) in
     record {
-      start-is = b .start-is ∙ first-append (s .kept) (r .kept) (pieces want os) (pieces want ps) (a .start-is) (a .pieces-is) ∙ ap (firstFrom (s .kept)) (sym p);
+      start-is = b .start-is ∙ first-append (s .kept) (r .kept) (pieces want os) (pieces want ps) (a .start-is) ∙ ap (firstFrom (s .kept)) (sym p);
       whole-is = omega (arith, a .whole-is, b .whole-is, l);
-      pieces-is = omega (arith, a .pieces-is, b .pieces-is, q);
+      last-is = b .last-is ∙ ap (λ (n : ℕ). placeAfter n (pieces want ps)) (a .last-is) ∙ sym (ap (placeAfter (s .kept .last)) p ∙ last-append (s .kept .last) (pieces want os) (pieces want ps));
       used-is = omega (arith, a .used-is, b .used-is, used-append os ps);
       count-is = λ e. let x = a .count-is e in let y = b .count-is e in omega (arith, length-append os ps);
       set-is = λ e f. b .set-is e f ∙ ap (λ (l : List ℕ). othersIn l ps) (a .set-is e f) ∙ sym (others-append (s .set) os ps);
     }
 
 pub adds-none : (marks : Bool) (want : ℕ) (s : Run) → Adds marks want s [] s
-unfolding pieces endToEnd usedBy othersIn
+unfolding pieces endToEnd placeAfter usedBy othersIn
 adds-none marks want s =
-    record { start-is = refl; whole-is = omega arith; pieces-is = omega arith; used-is = omega arith; count-is = λ e. omega arith; set-is = λ e f. refl }
+    record { start-is = refl; whole-is = omega arith; last-is = refl; used-is = omega arith; count-is = λ e. omega arith; set-is = λ e f. refl }
 
 -- ---- one option
 
@@ -142,7 +150,7 @@ module _ (marks : Bool) (want : ℕ) (fd : Field) (s : Run) (i : ℕ) (x : Rec) 
   opt = record { field = fd; offset = i; item = x }
 
   adds-met : (marks ≡ true → want ≡ 52 → eqb (x .tag) 52 ≡ true) → Adds marks want s (opt ∷ []) (met want (start fd) s i x)
-  unfolding pieces endToEnd usedBy othersIn
+  unfolding pieces endToEnd placeAfter usedBy othersIn
   adds-met h = go (eqb want (x .tag)) refl
     where
       set-is : marks ≡ true → want ≡ 52 → s .set ≡ cond (eqb (x .tag) 52) (s .set) (withMark (s .set) (x .tag))
@@ -150,25 +158,24 @@ module _ (marks : Bool) (want : ℕ) (fd : Field) (s : Run) (i : ℕ) (x : Rec) 
 
       go : (b : Bool) → eqb want (x .tag) ≡ b → Adds marks want s (opt ∷ []) (met want (start fd) s i x)
       go true e =
-          let z : start fd + (i + 2) ≡ start fd + i + 2 = omega arith in
           record {
-            start-is = rw (e, z) refl;
+            start-is = rw e refl;
             whole-is = rw (e, append-nil (x .body)) refl;
-            pieces-is = rw e (omega arith);
+            last-is = rw e refl;
             used-is = omega arith;
             count-is = λ _. omega arith;
             set-is = set-is;
           }
       go false e =
-          record { start-is = rw e refl; whole-is = rw e (omega arith); pieces-is = rw e (omega arith); used-is = omega arith; count-is = λ _. omega arith; set-is = set-is }
+          record { start-is = rw e refl; whole-is = rw e (omega arith); last-is = rw e refl; used-is = omega arith; count-is = λ _. omega arith; set-is = set-is }
 
   adds-passed : eqb want (x .tag) ≡ false → eqb (x .tag) 52 ≡ false → Adds marks want s (opt ∷ []) (passed marks s x)
-  unfolding pieces endToEnd usedBy othersIn
+  unfolding pieces endToEnd placeAfter usedBy othersIn
   adds-passed e b =
       record {
         start-is = rw e refl;
         whole-is = rw e (omega arith);
-        pieces-is = rw e (omega arith);
+        last-is = rw e refl;
         used-is = omega arith;
         count-is = λ m. rw m (omega arith);
         set-is = λ m f. rw (m, b) refl;

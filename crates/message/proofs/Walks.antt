@@ -179,14 +179,13 @@ pub record Going (w : List ℕ) (marks main : Bool) (want base : ℕ) (f : List 
   pub at-in : i ≤ length f
   pub pads-in : pads ≤ i
   pub few-whole : k .whole ≤ s .kept .whole + i
-  pub few-pieces : k .pieces ≤ s .kept .pieces + i
   pub few-count : count ≤ s .count + i
   pub same : walkOf w marks main want base (record { set = set′; kept = k; used = s .used + (i - pads); count = count }) (rest f i) ≡ walkOf w marks main want base (runOf set s) (rest f 0)
 
 pub going-begins : (w : List ℕ) (marks main : Bool) (want base : ℕ) (f : List ℕ) (s : Walked) (set : List ℕ) → Going w marks main want base f s set (s .kept) (s .count) 0 0 set
 going-begins w marks main want base f s set =
     let u : s .used + (0 - 0) ≡ s .used = omega arith in
-    record { at-in = omega arith; pads-in = omega arith; few-whole = omega arith; few-pieces = omega arith; few-count = omega arith; same = rw u refl }
+    record { at-in = omega arith; pads-in = omega arith; few-whole = omega arith; few-count = omega arith; same = rw u refl }
 
 module _ {w : List ℕ} {marks main : Bool} {want base : ℕ} {f : List ℕ} {s : Walked} {set : List ℕ} {k : Kept} {count pads i : ℕ} {set′ : List ℕ} (y : Going w marks main want base f s set k count pads i set′) where
   abbrev run : Run
@@ -201,7 +200,6 @@ module _ {w : List ℕ} {marks main : Bool} {want base : ℕ} {f : List ℕ} {s 
         at-in = z .at-in;
         pads-in = omega (arith, y .pads-in, z .not-back);
         few-whole = omega (arith, y .few-whole, z .not-back);
-        few-pieces = omega (arith, y .few-pieces, z .not-back);
         few-count = omega (arith, y .few-count, z .few);
         same = ap (λ (r : Run). walkOf w marks main want base r (rest f (p .at))) (sym v) ∙ sym (z .leads main want base run refl) ∙ y .same;
       }
@@ -220,13 +218,12 @@ module _ {w : List ℕ} {marks main : Bool} {want base : ℕ} {f : List ℕ} {s 
   few-done l a b n h =
       record {
         whole = omega (arith, h .whole, y .few-whole, y .at-in);
-        pieces = omega (arith, h .pieces, y .few-pieces, y .at-in);
         used = omega (arith, h .used, y .at-in);
         count = omega (arith, h .count, y .few-count, y .at-in);
       }
 
   few-stop : (a b n : ℕ) → Few n s → Few (n + 65536) (walkedOf (stop run a b))
-  few-stop a b n h = record { whole = omega arith; pieces = omega arith; used = omega arith; count = omega arith }
+  few-stop a b n h = record { whole = omega arith; used = omega arith; count = omega arith }
 
   walk-last : (p : Parse) → NotFound p → rest f i ≡ p → (r : Walked) → r ≡ lastOf base (s .used + (i - pads)) count k p → length f ≤ 65536 → Walks w marks main want base f s set r set′
   unfolding walkOf
@@ -256,7 +253,6 @@ module _ {w : List ℕ} {marks main : Bool} {want base : ℕ} {f : List ℕ} {s 
           at-in = b;
           pads-in = omega (arith, y .pads-in);
           few-whole = omega (arith, y .few-whole);
-          few-pieces = omega (arith, y .few-pieces);
           few-count = omega (arith, y .few-count);
           same = rw u (ap (walkOf w marks main want base run) (q ∙ sym (rest-pad f i h′ e)) ∙ y .same);
         }
@@ -293,27 +289,24 @@ module _ {w : List ℕ} {marks main : Bool} {want base : ℕ} {f : List ℕ} {s 
             turn : walkOf w marks main want base run (found i (record { tag = code; body = body }) (rest f t)) ≡ stop run n (base + i)
             turn = rw (m, ne-eqb (overStop main (k .over) code body) 0 (λ o. x (a ∙ o)), a) refl
 
-        kept-few : (k′ : Kept) → k′ ≡ keptAfter want k code base (i + 2) body → (k′ .whole ≤ s .kept .whole + t) × (k′ .pieces ≤ s .kept .pieces + t)
+        kept-few : (k′ : Kept) → k′ ≡ keptAfter want k code base i body → k′ .whole ≤ s .kept .whole + t
         kept-few k′ a = go (eqb want code) refl
           where
-            go : (b : Bool) → eqb want code ≡ b → (k′ .whole ≤ s .kept .whole + t) × (k′ .pieces ≤ s .kept .pieces + t)
+            go : (b : Bool) → eqb want code ≡ b → k′ .whole ≤ s .kept .whole + t
             go true o =
                 let u : k′ .whole ≡ k .whole + length body = rw o at (ap (λ (x : Kept). x .whole) a) in
-                let v : k′ .pieces ≡ k .pieces + 1 = rw o at (ap (λ (x : Kept). x .pieces) a) in
-                (omega (arith, u, y .few-whole, body-size, q), omega (arith, v, y .few-pieces, q))
+                omega (arith, u, y .few-whole, body-size, q)
             go false o =
                 let u : k′ .whole ≡ k .whole = rw o at (ap (λ (x : Kept). x .whole) a) in
-                let v : k′ .pieces ≡ k .pieces = rw o at (ap (λ (x : Kept). x .pieces) a) in
-                (omega (arith, u, y .few-whole, q), omega (arith, v, y .few-pieces, q))
+                omega (arith, u, y .few-whole, q)
 
-        pub going-on : (n : ℕ) → n ≡ overStop main (k .over) code body → n ≡ 0 → (k′ : Kept) → k′ ≡ keptAfter want k code base (i + 2) body → Going w marks main want base f s set k′ (count + 1) pads t set′
+        pub going-on : (n : ℕ) → n ≡ overStop main (k .over) code body → n ≡ 0 → (k′ : Kept) → k′ ≡ keptAfter want k code base i body → Going w marks main want base f s set k′ (count + 1) pads t set′
         unfolding walkOf
         going-on n a x k′ b =
             record {
               at-in = l;
               pads-in = omega (arith, y .pads-in, q);
-              few-whole = kept-few k′ b .0;
-              few-pieces = kept-few k′ b .1;
+              few-whole = kept-few k′ b;
               few-count = omega (arith, y .few-count, q);
               same = ap (λ (r : Run). walkOf w marks main want base r (rest f t)) (sym sum) ∙ sym (ap (walkOf w marks main want base run) is ∙ turn) ∙ y .same;
             }

@@ -41,13 +41,13 @@ overStop main over c d = cond (eqb c 52) (cond (cond main (not (right52 d)) true
 abbrev pub overAfter : ℕ → ℕ → List ℕ → ℕ
 overAfter over c d = cond (eqb c 52) (cond (eqb over 0) (getD d 0 0) over) over
 
--- what is kept after a watched option whose data start at the offset j of a field that begins at base: "Every answer names the first piece"
+-- what is kept after a watched option whose code byte stands at the offset i of a field that begins at base: "Every answer names the first piece"
 abbrev pub keptAfter : ℕ → Kept → ℕ → ℕ → ℕ → List ℕ → Kept
-keptAfter want k c base j d =
+keptAfter want k c base i d =
     record {
-      start = cond (eqb want c) (cond (eqb (k .pieces) 0) (base + j) (k .start)) (k .start);
+      start = cond (eqb want c) (cond (eqb (k .start) 0) (base + i + 2) (k .start)) (k .start);
+      last = cond (eqb want c) (base + i) (k .last);
       whole = cond (eqb want c) (k .whole + length d) (k .whole);
-      pieces = cond (eqb want c) (k .pieces + 1) (k .pieces);
       over = overAfter (k .over) c d;
     }
 
@@ -57,14 +57,14 @@ sizeOf x = 2 + length (x .body)
 
 abbrev pub met : ℕ → ℕ → Run → ℕ → Rec → Run
 met want base s i x =
-    record { set = s .set; kept = keptAfter want (s .kept) (x .tag) base (i + 2) (x .body); used = s .used + sizeOf x; count = s .count + 1 }
+    record { set = s .set; kept = keptAfter want (s .kept) (x .tag) base i (x .body); used = s .used + sizeOf x; count = s .count + 1 }
 
 abbrev pub passed : Bool → Run → Rec → Run
 passed marks s x =
     record { set = setAfter marks (s .set) (x .tag); kept = s .kept; used = s .used + sizeOf x; count = s .count + tallied marks 1 }
 
 abbrev pub nothing : Kept
-nothing = record { start = 0; whole = 0; pieces = 0; over = 0 }
+nothing = record { start = 0; last = 0; whole = 0; over = 0 }
 
 abbrev pub begun : List ℕ → Run
 begun set = record { set = set; kept = nothing; used = 0; count = 0 }
@@ -142,7 +142,6 @@ lastOf base used count kept (found i x rest) = stoppedAt 0 0
 -- what was met is not more than n
 pub record Few (n : ℕ) (s : Walked) : Type 0 where
   pub whole : s .kept .whole ≤ n
-  pub pieces : s .kept .pieces ≤ n
   pub used : s .used ≤ n
   pub count : s .count ≤ n
 

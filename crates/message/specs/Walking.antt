@@ -38,8 +38,8 @@ scannedOf marks s =
     cond (eqb (s .end) 0)
     (record {
       start = s .kept .start;
+      last = s .kept .last;
       whole = s .kept .whole;
-      pieces = s .kept .pieces;
       used = cond marks (s .used) 0;
       count = cond marks (s .count) 0;
       place = 0;

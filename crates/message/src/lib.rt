@@ -100,12 +100,12 @@ pub fn sname_on(v: u32) -> bool
     v == 2 || v == 3
 }
 
-// What is kept of the options met: where the data of the first with the wanted code start in the message (0: none), how many bytes of data those with that
-// code have in all, how many they are, and the value of option 52 (0: not met).
+// What is kept of the options met: of those with the wanted code, where the data of the first start in the message (0: none), where the code byte of the last
+// stands, and how many bytes of data all have; and the value of option 52 (0: not met).
 pub struct Kept {
     pub start: usize,
+    pub last: usize,
     pub whole: usize,
-    pub pieces: usize,
     pub over: u32,
 }
 
@@ -294,34 +294,35 @@ fn over_after(over: u32, c: u8, d: &[u8]) -> u32
     byte32(d[0])
 }
 
-// What is kept after a watched option with this code and data, which start at the offset j of the field whose first byte is at base.
-fn kept_after(want: u8, k: Kept, c: u8, base: usize, j: usize, d: &[u8]) -> Kept
-    requires { ⌜ (k .whole ≤ 4294967296) × (length (now d) ≤ 65536) × (k .pieces ≤ 4294967296) × (base ≤ 240) × (j ≤ 65536) ⌝ }
-    ensures { λ r. ⌜ r ≡ keptAfter want k c base j (now (d .entry)) ⌝ }
+// What is kept after a watched option with this code and data, whose code byte stands at the offset i of the field that begins at base. Of the first piece it
+// is the data's start, of the last the code byte: with a place of one kind for both the compiler would make all of this also where another code is met.
+fn kept_after(want: u8, k: Kept, c: u8, base: usize, i: usize, d: &[u8]) -> Kept
+    requires { ⌜ (k .whole ≤ 4294967296) × (length (now d) ≤ 65536) × (base ≤ 240) × (i ≤ 65536) ⌝ }
+    ensures { λ r. ⌜ r ≡ keptAfter want k c base i (now (d .entry)) ⌝ }
 {
     let over = over_after(k.over, c, d);
     if want != c {
         return Kept {
             start: k.start,
+            last: k.last,
             whole: k.whole,
-            pieces: k.pieces,
             over,
         };
     }
+    let last = base + i;
     let whole = k.whole + d.len();
-    let pieces = k.pieces + 1;
-    if k.pieces != 0 {
+    if k.start != 0 {
         return Kept {
             start: k.start,
+            last,
             whole,
-            pieces,
             over,
         };
     }
     Kept {
-        start: base + j,
+        start: last + 2,
+        last,
         whole,
-        pieces,
         over,
     }
 }
@@ -333,8 +334,8 @@ fn stopped(end: u32, place: usize) -> Walked
     Walked {
         kept: Kept {
             start: 0,
+            last: 0,
             whole: 0,
-            pieces: 0,
             over: 0,
         },
         used: 0,
@@ -419,7 +420,7 @@ fn walk(
             if t != 0 {
                 return stopped(t, base + i);
             }
-            k = kept_after(want, k, c, base, j, &f[j..e]);
+            k = kept_after(want, k, c, base, i, &f[j..e]);
             count = count + 1;
             i = e;
         }
@@ -512,13 +513,13 @@ fn fields(watched: &[u64; 4], marks: bool, set: &mut [u64; 4], want: u8, m: &[u8
     }
 }
 
-// What a walk over a message tells: where the data of the first piece of the wanted code start (0: none), the bytes of all its pieces and how many they are;
-// the value of option 52 (0: none); number and place of a refusal (0: none). Where codes are marked: the bytes that all options take in their fields, and
-// how many options there are; else 0.
+// What a walk over a message tells: where the data of the first piece of the wanted code start (0: none), where the code byte of the last stands, and the bytes
+// of all its pieces; the value of option 52 (0: none); number and place of a refusal (0: none). Where codes are marked: the bytes that all options take in
+// their fields, and how many options there are; else 0.
 pub struct Scanned {
     pub start: usize,
+    pub last: usize,
     pub whole: usize,
-    pub pieces: usize,
     pub used: usize,
     pub count: usize,
     pub place: usize,
@@ -532,8 +533,8 @@ fn refused(number: u32, place: usize) -> Scanned
 {
     Scanned {
         start: 0,
+        last: 0,
         whole: 0,
-        pieces: 0,
         used: 0,
         count: 0,
         place,
@@ -568,8 +569,8 @@ fn told(marks: bool, s: Walked) -> Scanned
     let k = s.kept;
     Scanned {
         start: k.start,
+        last: k.last,
         whole: k.whole,
-        pieces: k.pieces,
         used: tally(marks, s.used),
         count: tally(marks, s.count),
         place: 0,
@@ -617,7 +618,7 @@ pub fn codes(m: &[u8], set: &mut [u64; 4]) -> Scanned
         return s;
     }
     // Option 52 is watched, and so not marked.
-    if s.pieces != 0 {
+    if s.start != 0 {
         codeset::mark(set, 52);
     }
     s

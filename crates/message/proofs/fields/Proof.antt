@@ -61,7 +61,7 @@ walk-requires c κs =
     let b = y .few in
     let x : length (take (l .loop .to - l .loop .from) (drop (l .loop .from) (a .m .now))) ≡ l .loop .to - l .loop .from = length-take-le (l .loop .to - l .loop .from) (drop (l .loop .from) (a .m .now)) (omega (arith, length-drop (l .loop .from) (a .m .now), y .is-to, f .1)) in
     let u : t ≤ 2 = omega (arith, y .is-turn, turn-small (y .fd)) in
-    (omega (arith, x, y .is-from, y .is-to, f .0), omega (arith, x, y .is-from, y .is-to, f .2), omega (arith, y .is-from, f .3), s .pre .2, s .pre .3, record { whole = omega (arith, b .whole); pieces = omega (arith, b .pieces); used = omega (arith, b .used); count = omega (arith, b .count) })
+    (omega (arith, x, y .is-from, y .is-to, f .0), omega (arith, x, y .is-from, y .is-to, f .2), omega (arith, y .is-from, f .3), s .pre .2, s .pre .3, record { whole = omega (arith, b .whole); used = omega (arith, b .used); count = omega (arith, b .count) })
 
 returns : tie.Need-returns Inv-loop μ-loop
 returns c =

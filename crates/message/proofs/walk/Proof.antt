@@ -273,7 +273,7 @@ kept-after-requires c κs =
     let d = c .before .before .before .before in
     let e = c .before .before .before .before .before .before .before in
     let v = d .before in
-    (omega (arith, g .few-whole, g .at-in, s .pre .1, s .pre .5 .whole), omega (arith, body-size g (here (e .before .before .before) .0) (e .before .if2 .left) (e .if3 .left) (here (e .before .before .before) .1) _ (ap (λ (n : ℕ). p .pass .result .at + 2 + n) (v .wide .ensures .0)) (omega (arith, d .if4 .left)), s .pre .1, d .if4 .left), omega (arith, g .few-pieces, g .at-in, s .pre .1, s .pre .5 .pieces), s .pre .2, omega (arith, here (e .before .before .before) .0, s .pre .1))
+    (omega (arith, g .few-whole, g .at-in, s .pre .1, s .pre .5 .whole), omega (arith, body-size g (here (e .before .before .before) .0) (e .before .if2 .left) (e .if3 .left) (here (e .before .before .before) .1) _ (ap (λ (n : ℕ). p .pass .result .at + 2 + n) (v .wide .ensures .0)) (omega (arith, d .if4 .left)), s .pre .1, d .if4 .left), s .pre .2, omega (arith, here (e .before .before .before) .0, s .pre .1))
 
 add-count-2 : tie.Need-add-count-2 Inv-loop μ-loop
 add-count-2 c =

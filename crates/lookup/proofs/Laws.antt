@@ -23,13 +23,14 @@ use Rattle.theorems.proofs.Reading.{listed-stands, listed-bytes}
 use Rattle.theorems.proofs.Pieces.{from-pieces}
 use Rattle.theorems.proofs.Lengths.{field-within, joined-short}
 use Rattle.message.specs.declared.Scanned.{Scanned}
-use Rattle.message.specs.Scan.{firstStart, refusedAt, scanOf}
-use Rattle.message.proofs.Callers.{ScanAccepted, scan-reads, scan-refused, scan-accepted}
+use Rattle.message.specs.Scan.{firstStart, placeAfter, refusedAt, scanOf}
+use Rattle.message.proofs.Callers.{passed, ScanAccepted, scan-reads, scan-refused, scan-accepted}
 use Rattle.text.specs.Text.{Puts}
 use Rattle.buffer.proofs.Writing.{written-as, written-front}
 use Rattle.cursor.specs.Cursor.{firstPosition}
 use Rattle.gather.specs.Joined.{joinedFrom}
-use Rattle.lookup.specs.Found.{originAt, knownKind, contentBy, meaningOf, judgedOf, clipped}
+use Rattle.lookup.specs.Found.{originAt, knownKind, contentBy, meaningOf, judgedOf, sizeAt, dataAt, InPieces, clipped}
+use Rattle.lookup.proofs.Halves.{lastOf, last-place, last-in, inside, data-is, piece-stands, first-stands, last-stands, last-apart, both-all}
 
 -- ---- what is answered of data, by the tests that the code makes
 
@@ -73,30 +74,28 @@ by-kind set c d = go (set c) (kindOf c) refl
 never : {X : Type 0} → _≡_ {A = Bool} false true → X
 never e = absurd (let z : _≡_ {A = ℕ} 0 1 = cc in omega arith)
 
-module _ (d : List ℕ) where
-  head-byte : (i : ℕ) → i < 4 → getD (take 4 d) i 0 ≡ getD d i 0
-  head-byte i h = getD-take 4 d i 0 h
-
-  head16 : first16 (take 4 d) ≡ first16 d
+module _ (d h : List ℕ) (head-byte : (i : ℕ) → i < 4 → getD h i 0 ≡ getD d i 0) where
+  head16 : first16 h ≡ first16 d
   head16 = rw (head-byte 0 (omega arith), head-byte 1 (omega arith))
 
-  head32 : first32 (take 4 d) ≡ first32 d
+  head32 : first32 h ≡ first32 d
   head32 = rw (head-byte 0 (omega arith), head-byte 1 (omega arith), head-byte 2 (omega arith), head-byte 3 (omega arith))
 
-  pub by-first-four : (k : Kind) (c : ℕ) → isList k ≡ false → judgedOf k c (length d) (numberFits k c (take 4 d)) (take 4 d) ≡ judged k c d
+  pub by-first-four : (k : Kind) (c : ℕ) → isList k ≡ false → judgedOf k c (length d) (numberFits k c h) h ≡ judged k c d
   unfolding judgedOf judged meaning meaningOf valueFits
-  by-first-four address c h = rw head32
-  by-first-four addresses c h = refl
-  by-first-four pairs c h = never (sym h)
-  by-first-four flag c h = rw (head-byte 0 (omega arith))
-  by-first-four octet c h = rw (head-byte 0 (omega arith))
-  by-first-four number16 c h = rw head16
-  by-first-four numbers16 c h = never (sym h)
-  by-first-four unsigned32 c h = rw head32
-  by-first-four signed32 c h = rw head32
-  by-first-four text c h = never (sym h)
-  by-first-four opaque c h = refl
+  by-first-four address c z = rw head32
+  by-first-four addresses c z = refl
+  by-first-four pairs c z = never (sym z)
+  by-first-four flag c z = rw (head-byte 0 (omega arith))
+  by-first-four octet c z = rw (head-byte 0 (omega arith))
+  by-first-four number16 c z = rw head16
+  by-first-four numbers16 c z = never (sym z)
+  by-first-four unsigned32 c z = rw head32
+  by-first-four signed32 c z = rw head32
+  by-first-four text c z = never (sym z)
+  by-first-four opaque c z = refl
 
+module _ (d : List ℕ) where
   pub by-all : (k : Kind) (c : ℕ) → isList k ≡ true → judgedOf k c (length d) (listFits k c d) d ≡ judged k c d
   unfolding judgedOf judged meaning meaningOf valueFits
   by-all address c h = never h
@@ -231,8 +230,8 @@ module _ (code : ℕ) (m : List ℕ) (r : Scanned) (os : List Opt) (a : ScanAcce
   pub whole-is : r .whole ≡ length (endToEnd (pieces code os))
   whole-is = ap (λ (w : Scanned). w .whole) (a .is)
 
-  pieces-is : r .pieces ≡ length (pieces code os)
-  pieces-is = ap (λ (w : Scanned). w .pieces) (a .is)
+  last-is : r .last ≡ placeAfter 0 (pieces code os)
+  last-is = ap (λ (w : Scanned). w .last) (a .is)
 
   pub joined-is : joinedFrom (r .over) m firstPosition code ≡ endToEnd (pieces code os)
   unfolding joinedFrom
@@ -254,8 +253,17 @@ module _ (code : ℕ) (m : List ℕ) (r : Scanned) (os : List Opt) (a : ScanAcce
     origin-of : (x : asked.Wholeness) → originAt (r .start - 2) x ≡ record { field = o .field; offset = o .offset; wholeness = x }
     origin-of x = rw start-of (origin-is o m x (omega (arith, option-in (stands .stands .option))))
 
-    inside : dataStart o + length (o .item .body) ≤ length m
-    inside = omega (arith, field-within (o .field) m (o .offset + 2 + length (o .item .body)) (omega arith) (option-in (stands .stands .option)))
+    within : dataStart o + length (o .item .body) ≤ length m
+    within = omega (arith, field-within (o .field) m (o .offset + 2 + length (o .item .body)) (omega arith) (option-in (stands .stands .option)))
+
+    last-of : r .last ≡ place (lastOf o qs)
+    unfolding placeAfter
+    last-of = last-is ∙ ap (placeAfter 0) e ∙ last-place o qs
+
+    last-within : r .last ≤ 1472
+    last-within =
+        let i : In (lastOf o qs) (pieces code os) = subst (In (lastOf o qs)) (sym e) (last-in o qs) in
+        omega (arith, last-of, inside m (lastOf o qs) (piece-stands m os (a .reads) code (lastOf o qs) i), passed m os (a .reads) .most)
 
   pub start-none : pieces code os ≡ [] → r .start ≡ 0
   start-none e = start-is ∙ ap firstStart e
@@ -267,13 +275,21 @@ module _ (code : ℕ) (m : List ℕ) (r : Scanned) (os : List Opt) (a : ScanAcce
       go [] e = e
       go (o ∷ qs) e = absurd (omega (arith, least-met o, start-of o qs e))
 
-  pub one-met : (r .start ≡ 0 → ⊥) → r .pieces ≤ 1 → One m r (pieces code os)
+  pub last-short : r .last ≤ 1472
+  unfolding placeAfter
+  last-short = go (pieces code os) refl
+    where
+      go : (ps : List Opt) → pieces code os ≡ ps → r .last ≤ 1472
+      go [] e = omega (arith, last-is ∙ ap (placeAfter 0) e)
+      go (o ∷ qs) e = last-within o qs e
+
+  pub one-met : (r .start ≡ 0 → ⊥) → r .last + 2 ≡ r .start → One m r (pieces code os)
   unfolding endToEnd
   one-met z h = go (pieces code os) refl
     where
       go : (ps : List Opt) → pieces code os ≡ ps → One m r (pieces code os)
       go [] e = absurd (z (start-is ∙ ap firstStart e))
-      go (o ∷ q ∷ qs) e = absurd (omega (arith, pieces-is, ap length e))
+      go (o ∷ q ∷ qs) e = absurd (last-apart m os (a .reads) code o q qs e (omega (arith, h, start-of o (q ∷ qs) e, last-of o (q ∷ qs) e)))
       go (o ∷ []) e =
           let w : r .whole ≡ length (o .item .body) = whole-is ∙ ap (λ (ps : List Opt). length (endToEnd ps)) e ∙ ap length (append-nil (o .item .body)) in
           record {
@@ -281,17 +297,17 @@ module _ (code : ℕ) (m : List ℕ) (r : Scanned) (os : List Opt) (a : ScanAcce
             are = e;
             start = start-of o [] e;
             whole = w;
-            within = omega (arith, inside o [] e, start-of o [] e);
+            within = omega (arith, within o [] e, start-of o [] e);
             own = rw (w, start-of o [] e) (listed-bytes m (a .reads) o (listed o [] e));
             origin = origin-of o [] e asked.inOne;
           }
 
-  pub several-met : 1 < r .pieces → Several r (pieces code os)
-  several-met h = go (pieces code os) refl
+  pub several-met : (r .start ≡ 0 → ⊥) → (r .last + 2 ≡ r .start → ⊥) → Several r (pieces code os)
+  several-met z h = go (pieces code os) refl
     where
       go : (ps : List Opt) → pieces code os ≡ ps → Several r (pieces code os)
-      go [] e = absurd (omega (arith, pieces-is, ap length e))
-      go (o ∷ []) e = absurd (omega (arith, pieces-is, ap length e))
+      go [] e = absurd (z (start-is ∙ ap firstStart e))
+      go (o ∷ []) e = absurd (h (omega (arith, start-of o [] e, last-of o [] e)))
       go (o ∷ q ∷ qs) e =
           record {
             option = o;
@@ -301,6 +317,28 @@ module _ (code : ℕ) (m : List ℕ) (r : Scanned) (os : List Opt) (a : ScanAcce
             origin = origin-of o (q ∷ qs) e (asked.inPieces (r .whole)) ∙ ap (λ (n : ℕ). record { field = o .field; offset = o .offset; wholeness = asked.inPieces n }) (whole-is ∙ ap (λ (ps : List Opt). length (endToEnd ps)) e);
             least = omega (arith, least-met o, start-of o (q ∷ qs) e);
           }
+
+  -- and of its first and last piece
+  pub in-pieces : (r .start ≡ 0 → ⊥) → (r .last + 2 ≡ r .start → ⊥) → InPieces m code r
+  in-pieces z h =
+      let x = several-met z h in
+      let o : Opt = x .option in
+      let q : Opt = lastOf (x .second) (x .others) in
+      let f = first-stands m os (a .reads) code o (x .second) (x .others) (x .are) in
+      let l = last-stands m os (a .reads) code o (x .second) (x .others) (x .are) in
+      let s : r .start - 2 ≡ place o = omega (arith, start-of o (x .second ∷ x .others) (x .are)) in
+      let t : r .last ≡ place q = last-of o (x .second ∷ x .others) (x .are) in
+      let w : r .whole ≡ length (endToEnd (o ∷ x .second ∷ x .others)) = whole-is ∙ ap (λ (ps : List Opt). length (endToEnd ps)) (x .are) in
+      let y : dataAt m (r .start - 2) ≡ o .item .body = ap (dataAt m) s ∙ data-is m o f in
+      let v : dataAt m (r .last) ≡ q .item .body = ap (dataAt m) t ∙ data-is m q l in
+      record {
+        whole = whole-is ∙ sym (ap length joined-is);
+        short = omega (arith, whole-is ∙ sym (ap length joined-is), joined-fits);
+        least = omega (arith, x .least);
+        first-in = subst (λ (p : ℕ). p + 2 + sizeAt m p ≤ length m) (sym s) (inside m o f);
+        last-in = subst (λ (p : ℕ). p + 2 + sizeAt m p ≤ length m) (sym t) (inside m q l);
+        both = λ e. ap₂ (λ (b c : List ℕ). b ++ c) y v ∙ both-all m os (a .reads) code o (x .second) (x .others) (x .are) (omega (arith, ap length y, ap length v, e, w)) ∙ ap endToEnd (sym (x .are)) ∙ sym joined-is;
+      }
 
 -- the pieces gathered in a buffer of n bytes: it begins with as many of theirs
 pub record Front (xs last : List ℕ) (r : ℕ) : Type 0 where
@@ -377,14 +415,14 @@ module _ (m : List ℕ) (c : ℕ) where
             ap (λ (d : List ℕ). asked.Found (asked.originOf (x .option) []) (asked.contentOf kinds set c d)) (sym (append-nil (x .option .item .body)))
             ∙ ap (asked.shown kinds set c) (sym (x .are)) ∙ lookup-read set (accepted os) (a .reads)
 
-        pub found-here : (r .start ≡ 0 → ⊥) → r .pieces ≤ 1
+        pub found-here : (r .start ≡ 0 → ⊥) → r .last + 2 ≡ r .start
             → asked.Found (originAt (r .start - 2) asked.inOne) (asked.contentOf kinds set c (take (r .whole) (drop (r .start) m))) ≡ asked.lookup kinds set m c
         found-here s h = let x = one-met c m r os a s h in rw (x .origin, x .own) (found-one x)
 
-        pub found-several : 1 < r .pieces
+        pub found-several : (r .start ≡ 0 → ⊥) → (r .last + 2 ≡ r .start → ⊥)
             → asked.Found (originAt (r .start - 2) (asked.inPieces (r .whole))) (asked.contentOf kinds set c (joinedFrom (r .over) m firstPosition c)) ≡ asked.lookup kinds set m c
-        found-several h =
-            let x = several-met c m r os a h in
+        found-several s h =
+            let x = several-met c m r os a s h in
             rw (x .origin, joined-is c m r os a, x .are) (ap (asked.shown kinds set c) (sym (x .are)) ∙ lookup-read set (accepted os) (a .reads))
 
         -- its text
@@ -392,7 +430,7 @@ module _ (m : List ℕ) (c : ℕ) where
         unfolding asked.textOf
         text-of x = ap asked.textIn (found-one x)
 
-        module _ (s : r .start ≡ 0 → ⊥) (h : r .pieces ≤ 1) where
+        module _ (s : r .start ≡ 0 → ⊥) (h : r .last + 2 ≡ r .start) where
           abbrev here : One m r (pieces c os)
           here = one-met c m r os a s h
 
@@ -409,10 +447,10 @@ module _ (m : List ℕ) (c : ℕ) where
               ∙ text-found set c (here .option) (here .option .item .body) k y
               ∙ text-of here
 
-        pub text-several : 1 < r .pieces → asked.noExtent ≡ asked.textOf set m c
+        pub text-several : (r .start ≡ 0 → ⊥) → (r .last + 2 ≡ r .start → ⊥) → asked.noExtent ≡ asked.textOf set m c
         unfolding asked.textOf
-        text-several h =
-            let x = several-met c m r os a h in
+        text-several s h =
+            let x = several-met c m r os a s h in
             go x (asked.isKnown kinds set c) ∙ ap asked.textIn (ap (asked.shown kinds set c) (sym (x .are)) ∙ lookup-read set (accepted os) (a .reads))
           where
             go : (x : Several r (pieces c os)) (b : Bool) → asked.noExtent
@@ -421,20 +459,17 @@ module _ (m : List ℕ) (c : ℕ) where
             go x false = refl
 
       -- its data
-      pub data-several : 1 < r .pieces → asked.noExtent ≡ asked.dataOf m c
-      data-several h = ap asked.dataFound (sym (several-met c m r os a h .are)) ∙ data-read (accepted os) (a .reads)
-
-      pub data-here : r .pieces ≤ 1 → clipped (r .start) (r .whole) ≡ asked.dataOf m c
-      unfolding endToEnd
-      data-here h = go (eqb (r .start) 0) refl ∙ data-read (accepted os) (a .reads)
+      pub data-several : (r .last + 2 ≡ r .start → ⊥) → asked.noExtent ≡ asked.dataOf m c
+      data-several h = go (eqb (r .start) 0) refl ∙ data-read (accepted os) (a .reads)
         where
-          go : (b : Bool) → eqb (r .start) 0 ≡ b → clipped (r .start) (r .whole) ≡ asked.dataFound (pieces c os)
-          go true q =
-              let e = none-met c m r os a (eqb-true (r .start) 0 q) in
-              ap (clipped (r .start)) (whole-is c m r os a ∙ ap (λ (ps : List Opt). length (endToEnd ps)) e) ∙ ap asked.dataFound (sym e)
-          go false q =
-              let x = one-met c m r os a (eqb-false (r .start) 0 q) h in
-              ap₂ clipped (x .start) (x .whole) ∙ clip-is (dataStart (x .option)) (length (x .option .item .body)) ∙ ap asked.dataFound (sym (x .are))
+          go : (b : Bool) → eqb (r .start) 0 ≡ b → asked.noExtent ≡ asked.dataFound (pieces c os)
+          go true q = ap asked.dataFound (sym (none-met c m r os a (eqb-true (r .start) 0 q)))
+          go false q = ap asked.dataFound (sym (several-met c m r os a (eqb-false (r .start) 0 q) h .are))
+
+      pub data-here : r .last + 2 ≡ r .start → clipped (r .start) (r .whole) ≡ asked.dataOf m c
+      data-here h =
+          let x = one-met c m r os a (λ z. omega (arith, h, z)) h in
+          ap₂ clipped (x .start) (x .whole) ∙ clip-is (dataStart (x .option)) (length (x .option .item .body)) ∙ ap asked.dataFound (sym (x .are)) ∙ data-read (accepted os) (a .reads)
 
       -- its copy
       pub copy-none : (old : List ℕ) → r .start ≡ 0 → asked.copy m c old ≡ asked.unfilled 11 0 old
@@ -447,7 +482,7 @@ module _ (m : List ℕ) (c : ℕ) where
           go [] e = absurd (h (start-none c m r os a e))
           go (o ∷ qs) e = refl
 
-      pub one-copied : (r .start ≡ 0 → ⊥) → r .pieces ≤ 1 → take (r .whole) (drop (r .start) m) ≡ endToEnd (pieces c os)
+      pub one-copied : (r .start ≡ 0 → ⊥) → r .last + 2 ≡ r .start → take (r .whole) (drop (r .start) m) ≡ endToEnd (pieces c os)
       unfolding endToEnd
       one-copied s h = let x = one-met c m r os a s h in x .own ∙ sym (append-nil (x .option .item .body)) ∙ ap endToEnd (sym (x .are))
 
@@ -467,16 +502,18 @@ module _ (m : List ℕ) (c : ℕ) where
       pub met-accepted : (r .start ≡ 0 → ⊥) → (os : List Opt) × ScanAccepted c m r os
       met-accepted s = by-number (λ y. absurd (s (ap (λ (w : Scanned). w .start) (refused-is y)))) (scan-accepted c m r b h)
 
-      pub data-apart : 1 < r .pieces → asked.noExtent ≡ asked.dataOf m c
+      pub last-least : r .last ≤ 1472
+      last-least =
+          by-number (λ y. omega (arith, ap (λ (w : Scanned). w .last) (refused-is y)))
+          (λ y. let x = scan-accepted c m r b h y in last-short c m r (x .0) (x .1))
+
+      pub data-apart : (r .last + 2 ≡ r .start → ⊥) → asked.noExtent ≡ asked.dataOf m c
       data-apart l =
-          by-number (λ y. absurd (omega (arith, ap (λ (w : Scanned). w .pieces) (refused-is y))))
+          by-number (λ y. data-read (refused (r .number) (r .place)) (scan-refused c m r h y))
           (λ y. let x = scan-accepted c m r b h y in data-several r (x .0) (x .1) l)
 
-      pub data-clipped : r .pieces ≤ 1 → clipped (r .start) (r .whole) ≡ asked.dataOf m c
-      data-clipped l =
-          by-number
-          (λ y. ap (λ (w : Scanned). clipped (w .start) (w .whole)) (refused-is y) ∙ data-read (refused (r .number) (r .place)) (scan-refused c m r h y))
-          (λ y. let x = scan-accepted c m r b h y in data-here r (x .0) (x .1) l)
+      pub data-clipped : r .last + 2 ≡ r .start → clipped (r .start) (r .whole) ≡ asked.dataOf m c
+      data-clipped l = let x = met-accepted (λ z. omega (arith, l, z)) in data-here r (x .0) (x .1) l
 
       pub text-absent : (set : ℕ → Bool) → r .start ≡ 0 → asked.noExtent ≡ asked.textOf set m c
       unfolding asked.textOf

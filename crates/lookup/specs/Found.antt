@@ -1,14 +1,18 @@
 -- What the code's own functions are held to: no public contract rests on this. Assumes nothing.
+use mathlib.Core.Path.{_≡_}
 use mathlib.Core.Bool.{Bool, cond}
-use mathlib.Core.List.{List}
-use Prim.Native.Nat.{ℕ, _-_}
+use mathlib.Core.List.{List, _++_}
+use Prim.Native.Nat.{ℕ, _+_, _-_, _≤_}
 use lib.Dec.{eqb, leb}
 use lib.IntN.{pos}
-use lib.ListN.{length, getD}
+use lib.ListN.{length, getD, take, drop}
 use Rattle.options.specs.Message.{options, file, sname, start}
 use Rattle.options.specs.Kinds.{Kind, address, addresses, pairs, flag, octet, number16, numbers16, unsigned32, signed32, text, opaque, Value, broken, number, part, kindOf, lengthFits, first16, first32, twosComplement, trimmed, meaning, judged}
 use Rattle.options.specs.Answers as asked
 use Rattle.kinds.specs.Numbers.{kindNumber, kindAt}
+use Rattle.message.specs.declared.Scanned.{Scanned}
+use Rattle.cursor.specs.Cursor.{firstPosition}
+use Rattle.gather.specs.Joined.{joinedFrom}
 
 -- an option whose code byte stands at the place p: the last field that begins there or before
 abbrev pub originAt : ℕ → asked.Wholeness → asked.Origin
@@ -54,6 +58,23 @@ judgedOf k c n fits d = cond (lengthFits k c n) (cond fits (meaningOf k n d) (br
 -- the answer for several pieces with the bytes d together, of which the first has its data at s
 abbrev pub severalAt : ℕ → ℕ → ℕ → List ℕ → asked.Answer
 severalAt k c s d = asked.Found (originAt (s - 2) (asked.inPieces (length d))) (contentBy k c d)
+
+-- the data of the option whose code byte stands at the place p: the byte behind it has their length
+abbrev pub sizeAt : List ℕ → ℕ → ℕ
+sizeAt m p = getD m (p + 1) 0
+
+abbrev pub dataAt : List ℕ → ℕ → List ℕ
+dataAt m p = take (sizeAt m p) (drop (p + 2) m)
+
+-- what the walk tells of the code c, of which there are several pieces: the first and the last are in the message, and where these two have as many bytes as
+-- all, they are all
+pub record InPieces (m : List ℕ) (c : ℕ) (w : Scanned) : Type 0 where
+  pub whole : w .whole ≡ length (joinedFrom (w .over) m firstPosition c)
+  pub short : w .whole ≤ 1472
+  pub least : 2 ≤ w .start
+  pub first-in : w .start - 2 + 2 + sizeAt m (w .start - 2) ≤ length m
+  pub last-in : w .last + 2 + sizeAt m (w .last) ≤ length m
+  pub both : length (dataAt m (w .start - 2)) + length (dataAt m (w .last)) ≡ w .whole → dataAt m (w .start - 2) ++ dataAt m (w .last) ≡ joinedFrom (w .over) m firstPosition c
 
 abbrev pub clipped : ℕ → ℕ → asked.Extent
 clipped s n = cond (eqb n 0) asked.noExtent (record { start = s; size = n })

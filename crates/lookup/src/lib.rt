@@ -1,19 +1,22 @@
 // Look up a code, its data and its text, and copy its bytes (document 01, What is asked of a message; document 02, requests 01 and 02).
 ghost use mathlib.Core.Path.{_≡_};
 ghost use mathlib.Core.Bool.{true, false};
-ghost use Prim.Native.Nat.{_≤_, _<_, _+_};
-ghost use lib.ListN.{length};
+ghost use mathlib.Core.List.{_++_};
+ghost use Prim.Native.Nat.{_≤_, _+_};
+ghost use lib.ListN.{length, getD};
 ghost use Rattle.message.specs.Scan.{scanOf};
 ghost use Rattle.message.specs.Part.{partAt};
 ghost use Rattle.options.specs.Kinds.{kinds, judged};
 ghost use Rattle.options.specs.CodeSet.{marked};
 ghost use Rattle.options.specs.Answers as asked;
 ghost use Rattle.cursor.specs.Cursor.{firstPosition};
+ghost use Rattle.buffer.specs.Written.{Written};
+ghost use Rattle.text.specs.Text.{Puts};
 ghost use Rattle.gather.specs.Joined.{joinedFrom};
 ghost use Rattle.filled.specs.Fill.{Fills};
 ghost use Rattle.lookup.specs.Shown.{contentOf, wholenessOf, originOf, answerOf, extentOf};
 ghost use Rattle.kinds.specs.Numbers.{kindAt, isList, listFits, numberFits};
-ghost use Rattle.lookup.specs.Found.{originAt, valueOf, knownKind, contentBy, meaningOf, judgedOf, severalAt, clipped};
+ghost use Rattle.lookup.specs.Found.{originAt, valueOf, knownKind, contentBy, meaningOf, judgedOf, severalAt, sizeAt, dataAt, InPieces, clipped};
 use filled::Given;
 use message::Field;
 use message::Scanned;
@@ -186,16 +189,16 @@ fn origin_at(place: usize, wholeness: Wholeness) -> Origin
 
 // The data of the option whose code byte stands at a place of the message.
 fn piece(m: &[u8], place: usize) -> &[u8]
-    requires { ⌜ place + 2 + getD (now m) (place + 1) 0 ≤ length (now m) ⌝ }
-    ensures { λ r. ⌜ now r ≡ take (getD (now (m .entry)) (place + 1) 0) (drop (place + 2) (now (m .entry))) ⌝ }
+    requires { ⌜ place + 2 + sizeAt (now m) place ≤ length (now m) ⌝ }
+    ensures { λ r. ⌜ now r ≡ dataAt (now (m .entry)) place ⌝ }
 {
     let start = place + 2;
     let end = start + num::wide(m[place + 1]);
     &m[start..end]
 }
 
-// Byte i of two parts, the one behind the other; 0 past their end.
-fn byte_of(a: &[u8], b: &[u8], i: usize) -> u8
+// The byte at i of two parts end to end, or 0 past their end.
+fn byte_of_both(a: &[u8], b: &[u8], i: usize) -> u8
     ensures { λ r. ⌜ r ≡ getD (now (a .entry) ++ now (b .entry)) i 0 ⌝ }
 {
     if i < a.len() {
@@ -204,22 +207,62 @@ fn byte_of(a: &[u8], b: &[u8], i: usize) -> u8
     num::byte(b, i - a.len())
 }
 
-// What is answered of a code whose bytes are two parts.
-fn two_by_head(k: u8, code: u8, a: &[u8], b: &[u8]) -> Content
+// What is answered of a code of the kind k whose bytes are two parts, where the kind looks at few of them.
+fn judge_both(k: u8, code: u8, a: &[u8], b: &[u8]) -> Content
     requires { ⌜ isList (kindAt k) ≡ false ⌝ }
     ensures { λ r. ⌜ contentOf r ≡ asked.known (judged (kindAt k) code (now (a .entry) ++ now (b .entry))) ⌝ }
 {
     let head = [
-        byte_of(a, b, 0),
-        byte_of(a, b, 1),
-        byte_of(a, b, 2),
-        byte_of(a, b, 3),
+        byte_of_both(a, b, 0),
+        byte_of_both(a, b, 1),
+        byte_of_both(a, b, 2),
+        byte_of_both(a, b, 3),
     ];
     judge_head(k, code, a.len() + b.len(), &head)
 }
 
-// Both: the bytes of a code in several pieces.
-fn by_gather(m: &[u8], k: u8, code: u8, w: Scanned) -> Content
+// Puts two parts end to end at the front of a buffer, and gives the index after them.
+fn put_both(a: &[u8], b: &[u8], out: &mut [u8]) -> usize
+    requires { ⌜ length (now a) + length (now b) ≤ length (now out) ⌝ }
+    ensures { λ r. ⌜ Written (now (out .entry)) 0 (now (a .entry) ++ now (b .entry)) r (now (out .exit)) ⌝ }
+{
+    let n = a.len();
+    let e = n + b.len();
+    buffer::copy(&mut out[0..n], a);
+    buffer::copy(&mut out[n..e], b);
+    e
+}
+
+// Of a code that comes in several pieces, once the message was walked. The pieces lie apart. Where there are two, as nearly always, they are found without
+// another walk: the walk tells where the first and the last stand. Else they are gathered.
+
+// All their bytes, at the front of a buffer that has room for them. Gives the index after them.
+fn put_pieces(m: &[u8], code: u8, w: Scanned, out: &mut [u8]) -> usize
+    requires { ⌜ InPieces (now m) code w × (w .whole ≤ length (now out)) ⌝ }
+    ensures { λ r. ⌜ Puts (now (out .entry)) 0 (joinedFrom (w .over) (now (m .entry)) firstPosition code) r (now (out .exit)) ⌝ }
+{
+    let first = piece(m, w.start - 2);
+    let last = piece(m, w.last);
+    if first.len() + last.len() == w.whole {
+        return put_both(first, last, out);
+    }
+    gather::gather(m, w.over, cursor::first(), code, out, 0)
+}
+
+// What is answered where the kind looks at all bytes: they are put into a buffer of the function's own.
+fn by_list(m: &[u8], k: u8, code: u8, w: Scanned) -> Content
+    requires { ⌜ (isList (kindAt k) ≡ true) × InPieces (now m) code w ⌝ }
+    ensures { λ r. ⌜ contentOf r ≡ asked.known (judged (kindAt k) code (joinedFrom (w .over) (now (m .entry)) firstPosition code)) ⌝ }
+{
+    let mut joined = [0u8; 1472];
+    let n = put_pieces(m, code, w, &mut joined);
+    judge_list(k, code, n, &joined[..n])
+}
+
+// What is answered where the kind looks at few: of three pieces or more the first four bytes are gathered.
+fn by_first_four(m: &[u8], k: u8, code: u8, w: Scanned) -> Content
+    requires { ⌜ (isList (kindAt k) ≡ false) × InPieces (now m) code w ⌝ }
+    ensures { λ r. ⌜ contentOf r ≡ asked.known (judged (kindAt k) code (joinedFrom (w .over) (now (m .entry)) firstPosition code)) ⌝ }
 {
     let mut head = [0u8; 4];
     let h = gather::gather(m, w.over, cursor::first(), code, &mut head, 0);
@@ -227,43 +270,19 @@ fn by_gather(m: &[u8], k: u8, code: u8, w: Scanned) -> Content
 }
 
 fn by_head(m: &[u8], k: u8, code: u8, w: Scanned) -> Content
+    requires { ⌜ (isList (kindAt k) ≡ false) × InPieces (now m) code w ⌝ }
+    ensures { λ r. ⌜ contentOf r ≡ asked.known (judged (kindAt k) code (joinedFrom (w .over) (now (m .entry)) firstPosition code)) ⌝ }
 {
     let first = piece(m, w.start - 2);
     let last = piece(m, w.last);
     if first.len() + last.len() == w.whole {
-        return two_by_head(k, code, first, last);
+        return judge_both(k, code, first, last);
     }
-    by_gather(m, k, code, w)
-}
-
-fn put_two(a: &[u8], b: &[u8], out: &mut [u8]) -> usize
-{
-    let n = a.len();
-    let e = n + b.len();
-    buffer::copy(&mut out[..n], a);
-    buffer::copy(&mut out[n..e], b);
-    e
-}
-
-fn put_pieces(m: &[u8], code: u8, w: Scanned, out: &mut [u8]) -> usize
-{
-    let first = piece(m, w.start - 2);
-    let last = piece(m, w.last);
-    if first.len() + last.len() == w.whole {
-        return put_two(first, last, out);
-    }
-    gather::gather(m, w.over, cursor::first(), code, out, 0)
-}
-
-fn by_list(m: &[u8], k: u8, code: u8, w: Scanned) -> Content
-{
-    let mut joined = [0u8; 1472];
-    let n = put_pieces(m, code, w, &mut joined);
-    judge_list(k, code, n, &joined[..n])
+    by_first_four(m, k, code, w)
 }
 
 fn judge_pieces(m: &[u8], k: u8, code: u8, w: Scanned) -> Content
-    requires { ⌜ (w .whole ≡ length (joinedFrom (w .over) (now m) firstPosition code)) × (w .whole ≤ 1472) ⌝ }
+    requires { ⌜ InPieces (now m) code w ⌝ }
     ensures { λ r. ⌜ contentOf r ≡ contentBy k code (joinedFrom (w .over) (now (m .entry)) firstPosition code) ⌝ }
 {
     if k == kinds::NO_ROW {
@@ -275,9 +294,9 @@ fn judge_pieces(m: &[u8], k: u8, code: u8, w: Scanned) -> Content
     by_head(m, k, code, w)
 }
 
-// The answer for a code of the kind k that comes in several pieces, once the message was walked.
+// The answer for a code of the kind k that comes in several pieces.
 fn in_pieces(m: &[u8], k: u8, code: u8, w: Scanned) -> Answer
-    requires { ⌜ (code ≡ 0 → ⊥) × (code ≡ 255 → ⊥) × (w ≡ scanOf code (now m)) × (w .number ≡ 0) × (1 < w .pieces) ⌝ }
+    requires { ⌜ InPieces (now m) code w ⌝ }
     ensures { λ r. ⌜ answerOf r ≡ severalAt k code (w .start) (joinedFrom (w .over) (now (m .entry)) firstPosition code) ⌝ }
 {
     let origin = origin_at(w.start - 2, Wholeness::InPieces(w.whole));

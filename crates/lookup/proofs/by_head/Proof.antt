@@ -1,61 +1,47 @@
 -- `lookup::by_head` meets its contract. Assumes nothing.
 use borrow.Author.Needs.{needs}
-use mathlib.Core.Path.{sym, ap, _∙_}
-use mathlib.Core.List.{List}
+use native.Mathlib.Omega.{arith}
+use mathlib.Core.Path.{ap, ap₂, _∙_}
+use mathlib.Core.List.{List, _++_}
 use Prim.Native.Nat.{ℕ}
-use lib.ListN.{length, take}
-use lib.Seq.{length-take-le}
+use lib.ListN.{length}
+use Rattle.options.specs.Kinds.{judged}
 use Rattle.options.specs.Answers as asked
-use Rattle.kinds.specs.Numbers.{kindAt, numberFits}
-use Rattle.cursor.specs.Cursor.{firstPosition}
-use Rattle.gather.specs.Joined.{joinedFrom}
-use Rattle.lookup.specs.Found.{judgedOf}
-use Rattle.lookup.proofs.Laws.{Front, gathered, by-first-four}
+use Rattle.kinds.specs.Numbers.{kindAt}
 use Rattle.lookup.proofs.by_head.Statement.{statement}
 use Rattle.lookup.proofs.by_head.Tie as tie
 
--- what the buffer begins with
-front : (g : tie.After-gather) → let s = g .before .before .before .before in
-    Front (take 4 (joinedFrom (s .args .w .over) (s .args .m .now) firstPosition (s .args .code))) (g .gather .last .1 .1 .1 .1 .0) (g .gather .result)
-front g = gathered 4 (rw (g .before .before .first .ensures) at (g .gather .ensures))
+sub-piece : tie.Need-sub-piece
+sub-piece c = search needs
 
-first-requires : tie.Need-first-requires
-first-requires c κs = search needs
+piece-requires : tie.Need-piece-requires
+piece-requires c κs = search needs
 
-slice-aggregate-gather : tie.Need-slice-aggregate-gather
-slice-aggregate-gather c = search needs
+piece-requires-2 : tie.Need-piece-requires-2
+piece-requires-2 c κs = search needs
 
-gather-requires : tie.Need-gather-requires
-gather-requires c κs = search needs
+add-if1 : tie.Need-add-if1
+add-if1 c = search needs
 
-array-share-prefix-head : tie.Need-array-share-prefix-head
-array-share-prefix-head c = front (c .before) .room
-
-slice-aggregate-judge-head : tie.Need-slice-aggregate-judge-head
-slice-aggregate-judge-head c = sym (length-take-le _ _ (front (c .before .before) .room))
-
-judge-head-requires : tie.Need-judge-head-requires
-judge-head-requires c κs = search needs
+judge-both-requires : tie.Need-judge-both-requires
+judge-both-requires c κs = search needs
 
 returns : tie.Need-returns
 returns c =
-    let g = c .before .before .before in
-    let s = g .before .before .before .before in
-    let a = s .args in
-    let d = joinedFrom (a .w .over) (a .m .now) firstPosition (a .code) in
-    c .judge-head .ensures
-    ∙ ap (λ (h : List ℕ). asked.known (judgedOf (kindAt (a .k)) (a .code) (a .w .whole) (numberFits (kindAt (a .k)) (a .code) h) h)) (front g .front)
-    ∙ ap (λ (n : ℕ). asked.known (judgedOf (kindAt (a .k)) (a .code) n (numberFits (kindAt (a .k)) (a .code) (take 4 d)) (take 4 d))) (s .pre .1)
-    ∙ ap asked.known (by-first-four d (kindAt (a .k)) (a .code) (s .pre .0))
+    let q = c .before .before .before in
+    let p = q .before in
+    let s = p .before .before .before in
+    let e = p .piece .ensures in
+    let f = q .piece2 .ensures in
+    c .judge-both .ensures
+    ∙ ap (λ (l : List ℕ). asked.known (judged (kindAt (s .args .k)) (s .args .code) l))
+    (ap₂ (λ (x y : List ℕ). x ++ y) e f ∙ s .pre .1 .both (omega (arith, ap length e, ap length f, c .before .if1 .taken)))
+
+by-first-four-requires : tie.Need-by-first-four-requires
+by-first-four-requires c κs = search needs
+
+returns-2 : tie.Need-returns-2
+returns-2 c = c .by-first-four .ensures
 
 pub by-head-spec : {M : Type 1} → statement M
-by-head-spec =
-    tie.close
-    (tie.spec
-    first-requires
-    slice-aggregate-gather
-    gather-requires
-    array-share-prefix-head
-    slice-aggregate-judge-head
-    judge-head-requires
-    returns)
+by-head-spec = tie.close (tie.spec sub-piece piece-requires piece-requires-2 add-if1 judge-both-requires returns by-first-four-requires returns-2)

@@ -15,7 +15,7 @@ use Rattle.message.proofs.Callers.{all-bytes}
 use Rattle.message.proofs.Callers.{ScanAccepted, scan-refused, scan-accepted}
 use Rattle.text.specs.Text.{Puts}
 use Rattle.text.proofs.Putting.{puts-as, puts-front}
-use Rattle.lookup.proofs.Laws.{whole-is, joined-is, copy-read, copy-none, copy-met, one-copied}
+use Rattle.lookup.proofs.Laws.{whole-is, joined-is, last-short, in-pieces, copy-read, copy-none, copy-met, one-copied}
 use Rattle.lookup.proofs.copy_in.Statement.{statement}
 use Rattle.lookup.proofs.copy_in.Tie as tie
 
@@ -77,6 +77,12 @@ returns-3 c =
     let a = f .before .before .before .before .args in
     fills-small (copy (a .m .now) (a .code) (a .out .now)) (bytesOf g) (a .out .now) (met g) (omega (arith, c .if3 .taken, whole-is (a .code) (a .m .now) (a .w) (told f .0) (told f .1)))
 
+add-if4 : tie.Need-add-if4
+add-if4 c =
+    let f = c .before .before .before .before .before in
+    let a = f .before .before .before .before .args in
+    omega (arith, last-short (a .code) (a .m .now) (a .w) (told f .0) (told f .1))
+
 part-requires : tie.Need-part-requires
 part-requires c κs = search needs
 
@@ -90,18 +96,20 @@ returns-4 : tie.Need-returns-4
 returns-4 c =
     let w = c .before .before in
     let t = w .before .before .before in
-    let e = t .before .before in
+    let e = t .before .before .before in
     let g = e .before .before in
     let f = g .before .before in
     let s = f .before .before .before .before in
     given e (w .put-word .result) (w .put-word .last .0)
-    (puts-as (w .before .part .ensures .0 ∙ one-copied (s .args .m .now) (s .args .code) (s .pre .0) (s .pre .1) (s .args .w) (told f .0) (told f .1) (g .if2 .left) (omega (arith, t .if4 .taken))) (w .put-word .ensures))
+    (puts-as (w .before .part .ensures .0 ∙ one-copied (s .args .m .now) (s .args .code) (s .pre .0) (s .pre .1) (s .args .w) (told f .0) (told f .1) (g .if2 .left) (t .if4 .taken)) (w .put-word .ensures))
 
-first-requires : tie.Need-first-requires
-first-requires c κs = search needs
-
-gather-requires : tie.Need-gather-requires
-gather-requires c κs = search needs
+put-pieces-requires : tie.Need-put-pieces-requires
+put-pieces-requires c κs =
+    let e = c .before .before .before .before in
+    let g = e .before .before in
+    let f = g .before .before in
+    let a = f .before .before .before .before .args in
+    (in-pieces (a .code) (a .m .now) (a .w) (told f .0) (told f .1) (g .if2 .left) (c .before .if4 .left), omega (arith, e .if3 .left))
 
 same-length-2 : tie.Need-same-length-2
 same-length-2 c = search needs
@@ -109,12 +117,11 @@ same-length-2 c = search needs
 returns-5 : tie.Need-returns-5
 returns-5 c =
     let w = c .before .before in
-    let t = w .before .before in
-    let e = t .before .before .before in
+    let e = w .before .before .before .before .before in
     let f = e .before .before .before .before in
     let a = f .before .before .before .before .args in
-    given e (w .gather .result) (w .gather .last .1 .1 .1 .1 .0)
-    (puts-as (joined-is (a .code) (a .m .now) (a .w) (told f .0) (told f .1)) (rw (t .first .ensures) at (w .gather .ensures)))
+    given e (w .put-pieces .result) (w .put-pieces .last .1 .1 .1 .0)
+    (puts-as (joined-is (a .code) (a .m .now) (a .w) (told f .0) (told f .1)) (w .put-pieces .ensures))
 
 pub copy-in-spec : {M : Type 1} → statement M
 copy-in-spec =
@@ -123,11 +130,11 @@ copy-in-spec =
     returns
     returns-2
     returns-3
+    add-if4
     part-requires
     put-word-requires
     same-length
     returns-4
-    first-requires
-    gather-requires
+    put-pieces-requires
     same-length-2
     returns-5)

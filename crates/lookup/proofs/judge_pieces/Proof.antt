@@ -1,7 +1,6 @@
 -- `lookup::judge_pieces` meets its contract. Assumes nothing.
 use borrow.Author.Needs.{needs}
 use borrow.Author.Tests.{eq-eqb, ne-eqb}
-use native.Mathlib.Omega.{arith}
 use mathlib.Core.Path.{sym, ap, _∙_}
 use Rattle.options.specs.Answers as asked
 use Rattle.lookup.specs.Found.{contentBy}
@@ -10,7 +9,7 @@ use Rattle.lookup.proofs.judge_pieces.Tie as tie
 
 returns : tie.Need-returns
 unfolding contentBy
-returns c = rw (eq-eqb _ _ (c .if1 .taken)) (ap asked.unknown (c .before .before .pre .0))
+returns c = rw (eq-eqb _ _ (c .if1 .taken)) (ap asked.unknown (c .before .before .pre .whole))
 
 is-list-requires : tie.Need-is-list-requires
 is-list-requires c κs = search needs
@@ -19,7 +18,7 @@ by-list-requires : tie.Need-by-list-requires
 by-list-requires c κs =
     let q = c .before in
     let s = q .before .before .before in
-    (sym (q .is-list .ensures) ∙ c .if2 .taken, omega (arith, s .pre .0, s .pre .1))
+    (sym (q .is-list .ensures) ∙ c .if2 .taken, s .pre)
 
 returns-2 : tie.Need-returns-2
 unfolding contentBy
@@ -29,7 +28,7 @@ by-head-requires : tie.Need-by-head-requires
 by-head-requires c κs =
     let q = c .before in
     let s = q .before .before .before in
-    (sym (q .is-list .ensures) ∙ c .if2 .left, s .pre .0)
+    (sym (q .is-list .ensures) ∙ c .if2 .left, s .pre)
 
 returns-3 : tie.Need-returns-3
 unfolding contentBy

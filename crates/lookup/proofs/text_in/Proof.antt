@@ -5,7 +5,7 @@ use native.Mathlib.Nat.{add-sub-cancel-left}
 use mathlib.Core.Path.{_≡_, sym, _∙_}
 use mathlib.Core.List.{List}
 use mathlib.Core.Option.{some}
-use Prim.Native.Nat.{ℕ, _≤_}
+use Prim.Native.Nat.{ℕ}
 use borrow.Author.Tests.{not-true, not-false, eqb-true, eqb-false}
 use Rattle.options.specs.Message.{Opt}
 use Rattle.options.specs.Reading.{pieces}
@@ -15,7 +15,7 @@ use Rattle.kinds.specs.Numbers.{kindNumber}
 use Rattle.kinds.proofs.Numbering.{row}
 use Rattle.message.proofs.Callers.{all-bytes}
 use Rattle.message.proofs.Callers.{ScanAccepted}
-use Rattle.lookup.proofs.Laws.{One, one-met, met-accepted, text-absent, text-several, text-no-kind, text-not-marked, text-here}
+use Rattle.lookup.proofs.Laws.{last-short, One, one-met, met-accepted, text-absent, text-several, text-no-kind, text-not-marked, text-here}
 use Rattle.lookup.proofs.text_in.Statement.{statement}
 use Rattle.lookup.proofs.text_in.Tie as tie
 
@@ -32,16 +32,13 @@ told e =
     met-accepted m (s .args .code) (s .pre .0) (s .pre .1) (s .args .w) (all-bytes m (λ i. b .shared-slice-known .given i .fits)) (s .pre .2) (e .if1 .left)
 
 -- in one piece
-few : (e : tie.Else2) → let a = e .before .before .before .before .args in a .w .pieces ≤ 1
-few e = omega (arith, e .if2 .left)
-
 one : (e : tie.Else2) → let f = e .before .before in
     let a = f .before .before .args in
     One (a .m .now) (a .w) (pieces (a .code) (told f .0))
 one e =
     let f = e .before .before in
     let a = f .before .before .args in
-    one-met (a .code) (a .m .now) (a .w) (told f .0) (told f .1) (f .if1 .left) (few e)
+    one-met (a .code) (a .m .now) (a .w) (told f .0) (told f .1) (f .if1 .left) (e .if2 .left)
 
 returns : tie.Need-returns
 returns c =
@@ -50,11 +47,17 @@ returns c =
     let m = s .args .m .now in
     text-absent m (s .args .code) (s .pre .0) (s .pre .1) (s .args .w) (all-bytes m (λ i. b .shared-slice-known .given i .fits)) (s .pre .2) (marked (s .args .set)) (c .if1 .taken)
 
+add-if2 : tie.Need-add-if2
+add-if2 c =
+    let f = c .before in
+    let a = f .before .before .args in
+    omega (arith, last-short (a .code) (a .m .now) (a .w) (told f .0) (told f .1))
+
 returns-2 : tie.Need-returns-2
 returns-2 c =
     let f = c .before .before in
     let s = f .before .before in
-    text-several (s .args .m .now) (s .args .code) (s .pre .0) (s .pre .1) (s .args .w) (told f .0) (told f .1) (marked (s .args .set)) (c .if2 .taken)
+    text-several (s .args .m .now) (s .args .code) (s .pre .0) (s .pre .1) (s .args .w) (told f .0) (told f .1) (marked (s .args .set)) (f .if1 .left) (c .if2 .taken)
 
 is-text-requires : tie.Need-is-text-requires
 is-text-requires c κs = search needs
@@ -65,7 +68,7 @@ returns-3 c =
     let e = k .before in
     let f = e .before .before in
     let s = f .before .before in
-    text-no-kind (s .args .m .now) (s .args .code) (s .pre .0) (s .pre .1) (s .args .w) (told f .0) (told f .1) (marked (s .args .set)) (f .if1 .left) (few e) (eqb-false _ _ (sym (k .is-text .ensures) ∙ not-true (k .is-text .result) (c .if3 .taken)))
+    text-no-kind (s .args .m .now) (s .args .code) (s .pre .0) (s .pre .1) (s .args .w) (told f .0) (told f .1) (marked (s .args .set)) (f .if1 .left) (e .if2 .left) (eqb-false _ _ (sym (k .is-text .ensures) ∙ not-true (k .is-text .result) (c .if3 .taken)))
 
 contains-requires : tie.Need-contains-requires
 contains-requires c κs = search needs
@@ -76,7 +79,7 @@ returns-4 c =
     let e = q .before .before .before in
     let f = e .before .before in
     let s = f .before .before in
-    text-not-marked (s .args .m .now) (s .args .code) (s .pre .0) (s .pre .1) (s .args .w) (told f .0) (told f .1) (marked (s .args .set)) (f .if1 .left) (few e) (sym (q .contains .ensures) ∙ not-true (q .contains .result) (c .if4 .taken))
+    text-not-marked (s .args .m .now) (s .args .code) (s .pre .0) (s .pre .1) (s .args .w) (told f .0) (told f .1) (marked (s .args .set)) (f .if1 .left) (e .if2 .left) (sym (q .contains .ensures) ∙ not-true (q .contains .result) (c .if4 .taken))
 
 add-end : tie.Need-add-end
 add-end c =
@@ -111,7 +114,7 @@ returns-5 c =
     let f = e .before .before in
     let s = f .before .before in
     rw (c .clip .ensures, l .text-len .ensures, add-sub-cancel-left)
-    (text-here (s .args .m .now) (s .args .code) (s .pre .0) (s .pre .1) (s .args .w) (told f .0) (told f .1) (marked (s .args .set)) (f .if1 .left) (few e)
+    (text-here (s .args .m .now) (s .args .code) (s .pre .0) (s .pre .1) (s .args .w) (told f .0) (told f .1) (marked (s .args .set)) (f .if1 .left) (e .if2 .left)
     (is-text (s .args .code) (eqb-true _ _ (sym (k .is-text .ensures) ∙ not-false (k .is-text .result) (t .if3 .left))))
     (sym (q .contains .ensures) ∙ not-false (q .contains .result) (h .if4 .left)))
 
@@ -120,6 +123,7 @@ text-in-spec =
     tie.close
     (tie.spec
     returns
+    add-if2
     returns-2
     is-text-requires
     returns-3

@@ -2,6 +2,7 @@
 use mathlib.Core.Path.{_≡_, refl, ap, ap₂, _∙_}
 use mathlib.Core.Bool.{Bool, true, false, cond}
 use mathlib.Core.List.{List, [], _∷_, _++_}
+use mathlib.Core.Option.{Option, none, some, Option·map}
 use Prim.Native.Nat.{ℕ, _≤_}
 use native.Mathlib.Omega.{arith}
 use lib.Dec.{ltb, eqb}
@@ -11,40 +12,37 @@ use Rattle.options.specs.Message.{Field, options, file, sname, Opt, endToEnd}
 use Rattle.options.specs.Kinds.{Kind, broken, number, part}
 use Rattle.options.specs.Reading.{Reading, accepted, refused, readMessage, pieces}
 use Rattle.options.specs.Answers as asked
-use Rattle.kinds.specs.Numbers.{numberOf, kindAt}
-use Rattle.kinds.proofs.Numbering.{named}
+use Rattle.kinds.specs.Numbers.{numberOf, kindFrom}
+use Rattle.kinds.proofs.Numbering.{kind-back}
 use Rattle.present.specs.Marked.{placeOf}
 use Rattle.present.proofs.Kept.{refused-by-a-number, verdict-back}
-use Rattle.dhcpopt_reader.specs.Plain.{VerdictKept, FromNoOption, NoOriginTold, NeedlessMembers, NoPlaceNoSize, fieldNumber, plainWhole, plainSeveral, plainAnswer, plainFilled, fieldAt, AnswerKept, PlacesKept, ExtentKept, AddressKept, DoneStays, CodesKept, givenFrom, FilledKept, CopyKept}
+use Rattle.dhcpopt_reader.specs.Plain.{VerdictKept, FromNoOption, NoOriginTold, NeedlessMembers, NoPlaceNoSize, fieldNumber, plainWhole, plainSeveral, plainAnswer, plainFilled, fieldAt, originFrom, both, AnswerKept, PlacesKept, ExtentKept, AddressKept, DoneStays, CodesKept, givenFrom, FilledKept, CopyKept}
 
-field-kept : (fd : Field) → fieldAt (fieldNumber fd) ≡ fd
+field-kept : (fd : Field) → fieldAt (fieldNumber fd) ≡ some fd
 field-kept options = refl
 field-kept file = refl
 field-kept sname = refl
 
-origin-kept : (g : asked.Origin) (x : asked.Content)
-    → asked.Found
-    (record {
-      field = fieldAt (fieldNumber (g .field));
-      offset = g .offset;
-      wholeness = cond (eqb (plainSeveral (g .wholeness)) 0) asked.inOne (asked.inPieces (plainWhole (g .wholeness)));
-    }) x
-    ≡ asked.Found g x
-origin-kept g x = ap₂ (λ (fd : Field) (w : asked.Wholeness). asked.Found (record { field = fd; offset = g .offset; wholeness = w }) x) (field-kept (g .field)) (whole-kept (g .wholeness))
-  where
-    whole-kept : (w : asked.Wholeness) → cond (eqb (plainSeveral w) 0) asked.inOne (asked.inPieces (plainWhole w)) ≡ w
-    whole-kept asked.inOne = refl
-    whole-kept (asked.inPieces n) = refl
+whole-kept : (w : asked.Wholeness)
+    → cond (eqb (plainSeveral w) 0) (some asked.inOne) (cond (eqb (plainSeveral w) 1) (some (asked.inPieces (plainWhole w))) none) ≡ some w
+whole-kept asked.inOne = refl
+whole-kept (asked.inPieces n) = refl
+
+origin-kept : (g : asked.Origin) (x : asked.Content) → originFrom (plainAnswer (asked.Found g x)) ≡ some g
+origin-kept g x = rw (field-kept (g .field), whole-kept (g .wholeness))
+
+found-kept : (g : asked.Origin) (x : asked.Content) (y : Option asked.Content) → y ≡ some x → both asked.Found (originFrom (plainAnswer (asked.Found g x))) y ≡ some (asked.Found g x)
+found-kept g x y e = rw (origin-kept g x, e)
 
 pub answer-kept : AnswerKept
 answer-kept asked.Absent = refl
 answer-kept (asked.Refused n p) = refl
-answer-kept (asked.Found g (asked.unknown n)) = origin-kept g (asked.unknown n)
-answer-kept (asked.Found g (asked.known (broken n))) = origin-kept g (asked.known (broken n))
+answer-kept (asked.Found g (asked.unknown n)) = found-kept g (asked.unknown n) _ refl
+answer-kept (asked.Found g (asked.known (broken n))) = found-kept g (asked.known (broken n)) _ refl
 answer-kept (asked.Found g (asked.known (number k z))) =
-    origin-kept g (asked.known (number (kindAt (numberOf k)) z)) ∙ ap (λ (x : Kind). asked.Found g (asked.known (number x z))) (named k)
+    found-kept g (asked.known (number k z)) _ (ap (Option·map (λ (x : Kind). asked.known (number x z))) (kind-back k))
 answer-kept (asked.Found g (asked.known (part k n))) =
-    origin-kept g (asked.known (part (kindAt (numberOf k)) n)) ∙ ap (λ (x : Kind). asked.Found g (asked.known (part x n))) (named k)
+    found-kept g (asked.known (part k n)) _ (ap (Option·map (λ (x : Kind). asked.known (part x n))) (kind-back k))
 
 pub places-kept : PlacesKept
 places-kept g x = record { start-told = refl; broken-told = λ n e. rw e }
@@ -57,7 +55,7 @@ address-kept at (asked.next a k) = refl
 address-kept at asked.done = refl
 
 pub done-stays : DoneStays
-done-stays at = refl
+done-stays at = record { none-given = refl; no-address = refl; same-place = refl }
 
 pub codes-kept : CodesKept
 unfolding asked.present

@@ -1,5 +1,5 @@
 -- No answer is lost between the code's cases and the paper's; and FOR CALLERS: what a call gives, by the test that it makes. Assumes nothing.
-use mathlib.Core.Path.{_≡_, refl, sym, ap, _∙_}
+use mathlib.Core.Path.{_≡_, refl, sym, ap, ap₂, _∙_}
 use mathlib.Core.List.{List, _++_}
 use Prim.Native.Nat.{ℕ, _≤_, _<_}
 use lib.ListN.{length, drop}
@@ -8,7 +8,7 @@ use Rattle.options.specs.Answers.{given, declined, Filled, unfilled, filledWith
 use Rattle.options.specs.Answers as answers
 use Rattle.filled.specs.declared.Given.{Given}
 use Rattle.filled.specs.declared.Given.the-variants.{Bytes, Refused}
-use Rattle.filled.specs.Fill.{givenOf, codedGiven, AnswersComeBack, Fills}
+use Rattle.filled.specs.Fill.{givenOf, codedGiven, AnswersComeBack, Fills, FillsByCase}
 
 answer-back : (g : Given) → codedGiven (givenOf g) ≡ g
 answer-back (Bytes n) = refl
@@ -24,6 +24,15 @@ answers-come-back = (answer-back, answer-there)
 -- a refusal
 pub fills-unfilled : (w : Filled) (n p : ℕ) (old : List ℕ) → w ≡ unfilled n p old → Fills w (Refused n p) old
 fills-unfilled w n p old e = record { answer = sym (ap (λ (x : Filled). x .answer) e); buffer = sym (ap (λ (x : Filled). x .buffer) e) }
+
+filled-by : (w : Filled) (r : Given) (after : List ℕ) → Fills w r after → w ≡ record { answer = givenOf r; buffer = after }
+filled-by w r after f = ap₂ (λ (g : answers.Given) (b : List ℕ). record { answer = g; buffer = b }) (sym (f .answer)) (sym (f .buffer))
+
+pub fills-by-case : FillsByCase
+fills-by-case w after = (
+  (λ n. (filled-by w (Bytes n) after, λ e. record { answer = sym (ap (λ (x : Filled). x .answer) e); buffer = sym (ap (λ (x : Filled). x .buffer) e) })),
+  (λ n p. (filled-by w (Refused n p) after, fills-unfilled w n p after)),
+)
 
 module _ (w : Filled) (xs old : List ℕ) (e : w ≡ filledWith xs old) where
   -- too small

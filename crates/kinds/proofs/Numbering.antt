@@ -10,7 +10,7 @@ use lib.Dec.{eqb}
 use lib.ListN.{length}
 use Rattle.options.specs.SheetWalk.{isBroken}
 use Rattle.options.specs.Kinds.{Kind, address, addresses, pairs, flag, octet, number16, numbers16, unsigned32, signed32, text, opaque, Value, broken, number, part, kindOf, lengthFits, valueFits, meaning, judged, judgedBy, kinds}
-use Rattle.kinds.specs.Numbers.{numberOf, kindNumber, kindAt, rowFrom, NumbersKeepTheKind, numberOfFault, faultOf, faultAs, isList, listFits, numberFits, FaultsKeepTheNumber}
+use Rattle.kinds.specs.Numbers.{numberOf, kindNumber, kindAt, rowFrom, kindFrom, NumbersKeepTheKind, numberOfFault, faultOf, faultAs, isList, listFits, numberFits, FaultsKeepTheNumber}
 
 pub named : (k : Kind) → kindAt (numberOf k) ≡ k
 named address = refl
@@ -43,9 +43,26 @@ pub row-at : (n : ℕ) → (n ≡ 0 → ⊥) → rowFrom n ≡ some (kindAt n)
 row-at zero z = absurd (z refl)
 row-at (suc n) z = refl
 
+pub kind-back : (k : Kind) → kindFrom (numberOf k) ≡ some k
+kind-back address = refl
+kind-back addresses = refl
+kind-back pairs = refl
+kind-back flag = refl
+kind-back octet = refl
+kind-back number16 = refl
+kind-back numbers16 = refl
+kind-back unsigned32 = refl
+kind-back signed32 = refl
+kind-back text = refl
+kind-back opaque = refl
+
 pub numbers-keep-the-kind : NumbersKeepTheKind
 numbers-keep-the-kind none = refl
-numbers-keep-the-kind (some k) = go (numberOf k) refl
+numbers-keep-the-kind (some k) = kind-back k
+
+pub row-back : (o : Option Kind) → rowFrom (kindNumber o) ≡ o
+row-back none = refl
+row-back (some k) = go (numberOf k) refl
   where
     go : (n : ℕ) → numberOf k ≡ n → rowFrom n ≡ some k
     go zero e = absurd (numbered k e)

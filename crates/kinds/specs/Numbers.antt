@@ -40,14 +40,29 @@ kindAt n =
     (cond (eqb n 9) signed32
     (cond (eqb n 10) text opaque)))))))))
 
--- the row that a number stands for, or none
+-- the same with none for 0
 abbrev pub rowFrom : ℕ → Option Kind
 rowFrom zero = none
 rowFrom (suc n) = some (kindAt (suc n))
 
--- a number loses nothing of the row
+-- the row that a number stands for: none for 0, and for a number that no kind has
+abbrev pub kindFrom : ℕ → Option Kind
+kindFrom n =
+    cond (eqb n 1) (some address)
+    (cond (eqb n 2) (some addresses)
+    (cond (eqb n 3) (some pairs)
+    (cond (eqb n 4) (some flag)
+    (cond (eqb n 5) (some octet)
+    (cond (eqb n 6) (some number16)
+    (cond (eqb n 7) (some numbers16)
+    (cond (eqb n 8) (some unsigned32)
+    (cond (eqb n 9) (some signed32)
+    (cond (eqb n 10) (some text)
+    (cond (eqb n 11) (some opaque) none))))))))))
+
+-- a number loses nothing of the row, and is one of 1 to 11, or 0 for none
 abbrev pub NumbersKeepTheKind : Type 0
-NumbersKeepTheKind = (o : Option Kind) → rowFrom (kindNumber o) ≡ o
+NumbersKeepTheKind = (o : Option Kind) → kindFrom (kindNumber o) ≡ o
 
 abbrev pub numberOfFault : Value → ℕ
 numberOfFault (broken n) = n

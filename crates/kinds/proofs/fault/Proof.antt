@@ -3,7 +3,7 @@ use borrow.Author.Needs.{needs}
 use mathlib.Core.Path.{_∙_}
 use Rattle.options.specs.Kinds.{kindOf}
 use Rattle.kinds.specs.Numbers.{faultOf, faultAs}
-use Rattle.kinds.proofs.Numbering.{numbers-keep-the-kind}
+use Rattle.kinds.proofs.Numbering.{row-back}
 use Rattle.kinds.proofs.fault.Statement.{statement}
 use Rattle.kinds.proofs.fault.Tie as tie
 
@@ -17,7 +17,7 @@ returns : tie.Need-returns
 unfolding faultOf faultAs
 returns c =
     let k = c .before .kind in
-    c .fault-of .ensures ∙ rw (k .ensures, numbers-keep-the-kind (kindOf _))
+    c .fault-of .ensures ∙ rw (k .ensures, row-back (kindOf _))
 
 pub fault-spec : {M : Type 1} → statement M
 fault-spec = tie.close (tie.spec kind-requires fault-of-requires returns)

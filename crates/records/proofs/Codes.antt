@@ -18,22 +18,18 @@ use Rattle.codeset.proofs.Codes.{marks-none}
 use Rattle.theorems.proofs.View.{clash}
 use Rattle.theorems.proofs.Sheets.{further-pieces}
 use Rattle.message.specs.Scan.{usedBy}
-use Rattle.records.specs.JoinedRecords.{joinedRecord, sheetFrom, only52, fresh}
+use Rattle.records.specs.JoinedRecords.{Small, joinedRecord, sheetFrom, only52, fresh}
 
--- every code is a byte
-abbrev pub Small : List Opt → Type 0
-Small os = (o : Opt) → In o os → o .item .tag < 256
-
-small-rest : (o : Opt) (os : List Opt) → Small (o ∷ os) → Small os
+pub small-rest : (o : Opt) (os : List Opt) → Small (o ∷ os) → Small os
 small-rest o os s q h = s q (inr h)
 
-four-mark : (w : List ℕ) (c : ℕ) → length w ≡ 4 → length (withMark w c) ≡ 4
+pub four-mark : (w : List ℕ) (c : ℕ) → length w ≡ 4 → length (withMark w c) ≡ 4
 four-mark w c f = length-set w (c / 64) _ ∙ f
 
-in-four : (w : List ℕ) (c : ℕ) → length w ≡ 4 → c < 256 → c / 64 < length w
+pub in-four : (w : List ℕ) (c : ℕ) → length w ≡ 4 → c < 256 → c / 64 < length w
 in-four w c f h = omega arith
 
-none-marked : (c : ℕ) → c < 256 → marked noCodes c ≡ false
+pub none-marked : (c : ℕ) → c < 256 → marked noCodes c ≡ false
 none-marked c h = marks-none .bits c h
 
 -- ---- the records are those of the definition
@@ -200,7 +196,7 @@ bodies-more c w (o ∷ os) f l s m = go (ℕ-discrete c (o .item .tag)) (bodies-
     go (yes e) h = rw (← e, m, mark-same w c (in-four w c f l), eq-eqb c c refl) (omega (arith, length-append (o .item .body) (endToEnd (pieces c os))))
     go (no n) h = rw (mark-other w c t (in-four w c f l) (λ z. n (sym z)), ne-eqb c t n) (omega arith)
 
-record-length : (r : Rec) (rs : List Rec) → length (recordBytes (r ∷ rs)) ≡ 3 + length (r .body) + length (recordBytes rs)
+pub record-length : (r : Rec) (rs : List Rec) → length (recordBytes (r ∷ rs)) ≡ 3 + length (r .body) + length (recordBytes rs)
 unfolding recordBytes
 record-length r rs = omega (arith, length-append (r .body) (recordBytes rs))
 
@@ -255,7 +251,7 @@ none-left c w (o ∷ os) e f s m = go (λ v q k n. none-left c v os q k (small-r
         let n : c ≡ t → ⊥ = λ y. clash (let a : false ≡ true = sym q ∙ ap (marked w) (sym y) ∙ m in cc) in
         rw (ne-eqb c t n) (ih (withMark w t) (omega arith) (four-mark w t f) (mark-other w t c (in-four w t f (s o (inl refl))) n ∙ m))
 
-alone : (o : Opt) (os : List Opt) → pieces (o .item .tag) os ≡ [] → joinedRecord o os ≡ o .item
+pub alone : (o : Opt) (os : List Opt) → pieces (o .item .tag) os ≡ [] → joinedRecord o os ≡ o .item
 unfolding pieces endToEnd
 alone o os e = rw (eq-eqb (o .item .tag) (o .item .tag) refl, e) (ap (λ (d : List ℕ). record { tag = o .item .tag; body = d }) (append-nil (o .item .body)))
 

@@ -24,9 +24,9 @@ use Rattle.filled.specs.declared.Given.the-variants.{Bytes, Refused}
 use Rattle.filled.specs.Fill.{Fills}
 use Rattle.filled.proofs.Answers.{fills-unfilled, fills-small, fills-enough}
 use Rattle.records.specs.FieldRecords.{ActiveEnds, activeRecords}
-use Rattle.records.specs.JoinedRecords.{sheetFrom, only52, fresh, head52, needed, held}
+use Rattle.records.specs.JoinedRecords.{Small, sheetFrom, only52, fresh, head52, needed, held}
 use Rattle.records.proofs.Rooms.{active-records}
-use Rattle.records.proofs.Codes.{Small, one, sheet-is, codes-counted, sheet-size, sheet-once}
+use Rattle.records.proofs.Codes.{one, sheet-is, codes-counted, sheet-size, sheet-once}
 use Rattle.records.proofs.AcceptedEnds.{active-ends}
 
 pub fills-refused : (m old : List ℕ) (t : Scanned) → t ≡ surveyOf m → (t .number ≡ 0 → ⊥) → Fills (records m old) (Refused (t .number) (t .place)) old

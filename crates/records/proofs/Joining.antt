@@ -129,6 +129,13 @@ joined-more v m i j c o e = rw e (go (eqb c (o .item .tag)))
     go true = refl
     go false = refl
 
+pub record Gathering (v : ℕ) (m old : List ℕ) (at : ℕ) (all now : List ℕ) (o i c : ℕ) : Type 0 where
+  pub stands : Stands v m i
+  pub still : Still old at all now o (joinedAt v m i c)
+
+pub gathering-goes : {v : ℕ} {m old : List ℕ} {at : ℕ} {all now : List ℕ} {o i c j : ℕ} → Gathering v m old at all now o i c → Goes v m i j → Gathering v m old at all now o j c
+gathering-goes y g = record { stands = g .stands; still = rw (g .same) at (y .still) }
+
 -- ---- the records
 
 -- the first option's record, where it has one, and the others

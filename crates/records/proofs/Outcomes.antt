@@ -112,3 +112,6 @@ module _ {m : List ℕ} {t : Scanned} {codes : ℕ} (k : Told m t codes) where
 
   pub told-ends : AllBytes m → ActiveEnds (t .over) m
   told-ends b = rw (ap (λ (x : Scanned). x .over) (k .tells .is)) (active-ends m (k .options) b (k .tells .reads))
+
+  pub told-small : Small (activeOptions (t .over) m)
+  told-small = rw (k .tells .options-are) at (k .small)

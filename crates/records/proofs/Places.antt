@@ -34,6 +34,10 @@ byte-at m options x h = getD-drop 240 m x 0
 byte-at m file x h = getD-take 128 (drop 108 m) x 0 (omega (arith, length-take 128 (drop 108 m))) ∙ getD-drop 108 m x 0
 byte-at m sname x h = getD-take 64 (drop 44 m) x 0 (omega (arith, length-take 64 (drop 44 m))) ∙ getD-drop 44 m x 0
 
+-- the data from i + 2 on, as a part up to i + 2 + n
+pub part-is : (m : List ℕ) (i n : ℕ) → take (i + 2 + n - (i + 2)) (drop (i + 2) m) ≡ take n (drop (i + 2) m)
+part-is m i n = let k : i + 2 + n - (i + 2) ≡ n = omega arith in rw k
+
 -- what is left of the walk, in bytes: it falls from one field to the next, too
 abbrev toGo : List ℕ → Field → ℕ → ℕ
 toGo m options i = 192 + (length m - i)

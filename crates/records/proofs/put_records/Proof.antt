@@ -6,7 +6,7 @@ use lib.ListN.{length}
 use Rattle.options.specs.KindClaims.{AllBytes}
 use Rattle.message.proofs.Callers.{all-bytes}
 use Rattle.buffer.proofs.Writing.{written-as}
-use Rattle.records.proofs.Outcomes.{Told, told-of, told-fits, told-short, fills-given, told-once, told-long, told-ends}
+use Rattle.records.proofs.Outcomes.{Told, told-of, told-fits, told-short, fills-given, told-once, told-long, told-ends, told-small}
 use Rattle.records.proofs.put_records.Statement.{statement}
 use Rattle.records.proofs.put_records.Tie as tie
 
@@ -38,12 +38,12 @@ returns c =
     let k = told b in
     fills-given k (s .args .out .now) (p .put-active .result) (p .put-active .last .1 .1 .0) (s .pre .3) (written-as (sym (told-once k (f .if1 .taken))) (p .put-active .ensures))
 
-put-codes-requires : tie.Need-put-codes-requires
-put-codes-requires c κs =
+put-split-requires : tie.Need-put-split-requires
+put-split-requires c κs =
     let b = c .before .before .before .before in
     let s = b .before in
     let k = told b in
-    (told-fits k (length (s .args .out .now)) (s .pre .3), told-short k)
+    (told-ends k (bytes-of b), told-small k, told-fits k (length (s .args .out .now)) (s .pre .3), told-short k)
 
 same-length-2 : tie.Need-same-length-2
 same-length-2 c = search needs
@@ -53,7 +53,7 @@ returns-2 c =
     let p = c .before .before in
     let b = p .before .before .before .before .before in
     let s = b .before in
-    fills-given (told b) (s .args .out .now) (p .put-codes .result) (p .put-codes .last .1 .1 .0) (s .pre .3) (p .put-codes .ensures)
+    fills-given (told b) (s .args .out .now) (p .put-split .result) (p .put-split .last .1 .1 .0) (s .pre .3) (p .put-split .ensures)
 
 pub put-records-spec : {M : Type 1} → statement M
-put-records-spec = tie.close (tie.spec put-active-requires same-length returns put-codes-requires same-length-2 returns-2)
+put-records-spec = tie.close (tie.spec put-active-requires same-length returns put-split-requires same-length-2 returns-2)

@@ -1,5 +1,5 @@
 -- From what C gets, each answer can be had back. Assumes nothing.
-use mathlib.Core.Path.{_≡_, refl, ap, ap₂, _∙_}
+use mathlib.Core.Path.{_≡_, refl, ap}
 use mathlib.Core.Bool.{Bool, true, false, cond}
 use mathlib.Core.List.{List, [], _∷_, _++_}
 use mathlib.Core.Option.{Option, none, some, Option·map}
@@ -12,7 +12,6 @@ use Rattle.options.specs.Message.{Field, options, file, sname, Opt, endToEnd}
 use Rattle.options.specs.Kinds.{Kind, broken, number, part}
 use Rattle.options.specs.Reading.{Reading, accepted, refused, readMessage, pieces}
 use Rattle.options.specs.Answers as asked
-use Rattle.kinds.specs.Numbers.{numberOf, kindFrom}
 use Rattle.kinds.proofs.Numbering.{kind-back}
 use Rattle.present.specs.Marked.{placeOf}
 use Rattle.present.proofs.Kept.{refused-by-a-number, verdict-back}

@@ -34,12 +34,6 @@ static bool untouched(const uint8_t *p, size_t length)
     return true;
 }
 
-/* Reading order: options, then file, then sname. */
-static size_t turn(plain_answer a)
-{
-    return a.field * 10000 + a.offset;
-}
-
 /* Start is the field's first byte plus offset plus two; and what an answer does not give is 0. */
 static void hold_members(plain_answer a)
 {
@@ -53,6 +47,7 @@ static void hold_members(plain_answer a)
     hold(broken ? a.place == first[a.field] + a.offset : refused || a.place == 0, "place");
     hold(number || a.number == 0, "number");
     hold(part || a.status == PLAIN_UNKNOWN || a.length == 0, "length");
+    hold(a.several <= there && (a.several || a.whole == 0), "several");
 }
 
 /* A refused message is refused alike by every call. */
@@ -66,6 +61,8 @@ static void refused(plain_codes p)
     for (unsigned c = 1; c < 255; c++) {
         plain_answer a = plain_lookup(m, n, every, (uint8_t)c);
         plain_extent e = plain_data(m, n, (uint8_t)c);
+        f = plain_copy(m, n, (uint8_t)c, out, ROOM);
+        hold(f.refusal == p.refusal && f.place == p.place && f.size == 0 && untouched(out, ROOM), "copy of a refused message");
         hold(a.status == PLAIN_REFUSED && a.refusal == p.refusal && a.place == p.place, "lookup in a refused message");
         hold_members(a);
         hold(e.start == 0 && e.length == 0, "data of a refused message");
@@ -73,53 +70,92 @@ static void refused(plain_codes p)
     printf("refused %u %zu\n", p.refusal, p.place);
 }
 
+static unsigned long mixed(const uint8_t *p, size_t length)
+{
+    unsigned long sum = 0;
+    for (size_t i = 0; i < length; i++)
+        sum = (sum * 31 + p[i]) % 1000003;
+    return sum;
+}
+
+static plain_piece pieces[ROOM];
+static size_t count;
+
+/* Holds lookup, data and copy of a code to its pieces in the list. */
+static void hold_pieces(plain_codes p, uint8_t c)
+{
+    static uint8_t joined[ROOM], out[ROOM];
+    const plain_piece *first = NULL;
+    size_t met = 0, whole = 0;
+    for (size_t i = 0; i < count; i++)
+        if (pieces[i].code == c) {
+            if (met++ == 0)
+                first = &pieces[i];
+            memcpy(joined + whole, m + pieces[i].start, pieces[i].length);
+            whole += pieces[i].length;
+        }
+    plain_answer a = plain_lookup(m, n, none, c);
+    plain_extent e = plain_data(m, n, c);
+    hold_members(a);
+    memset(out, UNTOUCHED, ROOM);
+    plain_filled f = plain_copy(m, n, c, out, ROOM);
+    hold((p.words[c / 64] >> (c % 64) & 1) == (met > 0), "present and list");
+    hold(a.status == (met > 0 ? PLAIN_UNKNOWN : PLAIN_ABSENT), "lookup and list");
+    hold(met == 1 && whole > 0 ? e.start == first->start && e.length == whole : e.start == 0 && e.length == 0, "data and list");
+    if (met == 0) {
+        hold(f.refusal == 11 && f.place == 0 && f.size == 0 && untouched(out, ROOM), "copy of an absent code");
+        return;
+    }
+    hold(a.field == first->field && a.offset == first->offset && a.start == first->start && a.length == whole, "first piece");
+    hold(a.several == (met > 1) && a.whole == (met > 1 ? whole : 0), "several pieces");
+    hold(f.refusal == 0 && f.place == 0 && f.size == whole && memcmp(out, joined, whole) == 0 && untouched(out + whole, ROOM - whole),
+         "copy");
+    hold(plain_copy(m, n, c, out, whole).size == whole, "copy, exact room");
+    if (whole > 0) {
+        memset(out, UNTOUCHED, ROOM);
+        f = plain_copy(m, n, c, out, whole - 1);
+        hold(f.refusal == 11 && f.place == whole - 1 && f.size == 0 && untouched(out, ROOM), "copy, too little room");
+    }
+}
+
 static void accepted(plain_codes p)
 {
     static uint8_t out[ROOM];
-    uint8_t order[256];
-    plain_answer all[256];
-    unsigned met = 0;
+    count = plain_list(m, n, pieces);
+    unsigned codes = 0;
     for (unsigned c = 1; c < 255; c++) {
-        plain_answer a = plain_lookup(m, n, none, (uint8_t)c);
-        bool marked = p.words[c / 64] >> (c % 64) & 1;
-        hold(a.status == (marked ? PLAIN_UNKNOWN : PLAIN_ABSENT), "present and lookup");
-        hold_members(a);
-        plain_extent e = plain_data(m, n, (uint8_t)c);
-        hold(e.length == a.length && e.start == (a.length > 0 ? a.start : 0), "data and lookup");
-        if (!marked)
-            continue;
-        all[c] = a;
-        unsigned i = met++;
-        for (; i > 0 && turn(all[order[i - 1]]) > turn(a); i--)
-            order[i] = order[i - 1];
-        order[i] = (uint8_t)c;
+        hold_pieces(p, (uint8_t)c);
+        codes += p.words[c / 64] >> (c % 64) & 1;
     }
-    hold(met == p.count, "count");
-    printf("accepted %u\n", met);
-    for (unsigned i = 0; i < met; i++)
-        printf("%u %zu %zu %s\n", order[i], all[order[i]].start, all[order[i]].length, fields[all[order[i]].field]);
+    hold(codes == p.count, "count");
+    printf("accepted %zu\n", count);
+    for (size_t i = 0; i < count; i++)
+        printf("%u %zu %zu %s\n", pieces[i].code, pieces[i].start, pieces[i].length, fields[pieces[i].field]);
     printf("present %llu %llu %llu %llu count %u lowest %u\n", (unsigned long long)p.words[0], (unsigned long long)p.words[1],
            (unsigned long long)p.words[2], (unsigned long long)p.words[3], p.count, p.lowest);
-    for (unsigned i = 0; i < met; i++) {
-        plain_answer a = plain_lookup(m, n, every, order[i]);
+    for (size_t i = 0; i < count; i++) {
+        uint8_t c = pieces[i].code;
+        plain_answer a = plain_lookup(m, n, every, c);
         hold_members(a);
         if (a.status == PLAIN_NUMBER)
-            printf("%u %s %lld", order[i], kinds[a.kind], (long long)a.number);
+            printf("%u %s %lld", c, kinds[a.kind], (long long)a.number);
         else if (a.status == PLAIN_PART)
-            printf("%u %s %zu", order[i], kinds[a.kind], a.length);
+            printf("%u %s %zu", c, kinds[a.kind], a.length);
         else if (a.status == PLAIN_UNKNOWN)
-            printf("%u unknown %zu", order[i], a.length);
+            printf("%u unknown %zu", c, a.length);
         else
-            printf("%u broken %u %zu", order[i], a.refusal, a.place);
-        printf(" %s %zu %zu\n", fields[a.field], a.offset, a.start);
+            printf("%u broken %u %zu", c, a.refusal, a.place);
+        printf(" %s %zu %zu", fields[a.field], a.offset, a.start);
+        if (a.several) {
+            plain_filled f = plain_copy(m, n, c, out, ROOM);
+            printf(" several %zu\ncopy %u %zu %lu", a.whole, c, f.size, mixed(out, f.size));
+        }
+        puts("");
     }
     memset(out, UNTOUCHED, ROOM);
     plain_filled f = plain_records(m, n, out, ROOM);
     hold(f.refusal == 0 && untouched(out + f.size, ROOM - f.size), "records");
-    unsigned long sum = 0;
-    for (size_t i = 0; i < f.size; i++)
-        sum = (sum * 31 + out[i]) % 1000003;
-    printf("records %zu %lu\n", f.size, sum);
+    printf("records %zu %lu\n", f.size, mixed(out, f.size));
     hold(plain_records(m, n, out, f.size).size == f.size, "records, exact room");
     if (f.size > 0) {
         memset(out, UNTOUCHED, ROOM);
@@ -139,6 +175,7 @@ int main(void)
         if (fread(m, 1, n, stdin) != n)
             hold(false, "cut off");
         hold(plain_lookup(m, n, every, 0).refusal == 10 && plain_lookup(m, n, every, 255).refusal == 10, "lookup of 0 or 255");
+        hold(plain_copy(m, n, 0, m, n).refusal == 10 && plain_copy(m, n, 255, m, n).refusal == 10, "copy of 0 or 255");
         plain_codes p = plain_present(m, n);
         if (p.refusal != 0)
             refused(p);

@@ -1,6 +1,6 @@
 /*
  * compare messages FILE...   makes every reading call on each message by the library and in plain C, and stops where they differ;
- *                            looks up two codes also with any byte changed
+ *                            looks up three codes also with any byte changed
  * compare sheets FILE...     writes each sheet with both: every buffer size, every permission, cut off anywhere, any byte changed
  */
 #include "input.h"
@@ -9,7 +9,7 @@
 
 #include <string.h>
 
-enum { ROOM = 4096, UNTOUCHED = 0xA5, LONGEST = 1472 };
+enum { ROOM = 4096, COPY_ROOM = 1480, UNTOUCHED = 0xA5, LONGEST = 1472 };
 
 static uint8_t in[ROOM];
 static size_t size;
@@ -21,12 +21,25 @@ static void compare_lookup(const char *name, const uint64_t known[4], uint8_t co
     plain_answer p = plain_lookup(in, size, known, code);
     dhcpopt_answer l = dhcpopt_lookup(in, size, known[0], known[1], known[2], known[3], code);
     if (p.status != l.status || p.kind != l.kind || p.refusal != l.refusal || p.field != l.field || p.number != l.number ||
-        p.place != l.place || p.offset != l.offset || p.start != l.start || p.length != l.length) {
-        fprintf(stderr, "lookup of %u: plain %u %u %u %u %lld %zu %zu %zu %zu, library %u %u %u %u %lld %zu %zu %zu %zu\n", code,
-                p.status, p.kind, p.refusal, p.field, (long long)p.number, p.place, p.offset, p.start, p.length,
-                l.status, l.kind, l.refusal, l.field, (long long)l.number, l.place, l.offset, l.start, l.length);
+        p.place != l.place || p.offset != l.offset || p.start != l.start || p.length != l.length || p.whole != l.whole ||
+        p.several != l.several) {
+        fprintf(stderr,
+                "lookup of %u: plain %u %u %u %u %lld %zu %zu %zu %zu %zu %u, library %u %u %u %u %lld %zu %zu %zu %zu %zu %u\n", code,
+                p.status, p.kind, p.refusal, p.field, (long long)p.number, p.place, p.offset, p.start, p.length, p.whole, p.several,
+                l.status, l.kind, l.refusal, l.field, (long long)l.number, l.place, l.offset, l.start, l.length, l.whole, l.several);
         fail("answers differ", name);
     }
+}
+
+static void compare_copy(const char *name, uint8_t code, size_t room)
+{
+    static uint8_t a[COPY_ROOM], b[COPY_ROOM];
+    memset(a, UNTOUCHED, COPY_ROOM);
+    memset(b, UNTOUCHED, COPY_ROOM);
+    plain_filled p = plain_copy(in, size, code, a, room);
+    dhcpopt_filled l = dhcpopt_copy(in, size, code, b, room);
+    if (p.refusal != l.refusal || p.size != l.size || p.place != l.place || memcmp(a, b, COPY_ROOM) != 0)
+        fail("copies differ", name);
 }
 
 static void compare_records(const char *name, size_t room)
@@ -53,6 +66,12 @@ static void compare_message(const char *name)
         dhcpopt_extent l = dhcpopt_data(in, size, (uint8_t)c);
         if (p.start != l.start || p.length != l.length)
             fail("data differs", name);
+        plain_filled f = plain_copy(in, size, (uint8_t)c, out, ROOM);
+        compare_copy(name, (uint8_t)c, LONGEST);
+        compare_copy(name, (uint8_t)c, f.size);
+        if (f.size > 0)
+            compare_copy(name, (uint8_t)c, f.size - 1);
+        compare_copy(name, (uint8_t)c, 0);
     }
     plain_codes p = plain_present(in, size);
     dhcpopt_codes l = dhcpopt_present(in, size);
@@ -67,7 +86,7 @@ static void compare_message(const char *name)
     compare_records(name, 0);
 }
 
-/* Any byte behind the header changed to any other: 51, which all these messages hold, and the code that the byte may now be. */
+/* Any byte behind the header changed to any other: 51 and 43, which most of these messages hold, and the code that the byte may now be. */
 static void compare_changed(const char *name)
 {
     for (size_t i = 44; i < size; i++) {
@@ -75,6 +94,7 @@ static void compare_changed(const char *name)
         for (unsigned x = 0; x < 256; x++) {
             in[i] = (uint8_t)x;
             compare_lookup(name, every, 51);
+            compare_lookup(name, every, 43);
             compare_lookup(name, every, (uint8_t)x);
         }
         in[i] = was;
@@ -109,6 +129,7 @@ static void compare_sheet(const char *name)
         for (unsigned x = 0; x < 256; x++) {
             in[i] = (uint8_t)x;
             compare_write(name, size, 300, 3);
+            compare_write(name, size, 720, 3);
         }
         in[i] = was;
     }

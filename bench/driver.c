@@ -2,7 +2,7 @@
  * driver plain|rust|library CALL FILE [NUMBER...]   makes one call, for `run` to count
  * driver time CALL FILE [NUMBER...]                 prints the nanoseconds of a call: plain C's, plain Rust's and the library's
  *
- * FILE is a message, or the sheet to write. The numbers: the code for lookup and data; the buffer's size and the permission for write.
+ * FILE is a message, or the sheet to write. The numbers: the code for lookup, data and copy; the buffer's size and the permission for write.
  * The library's side is left out unless LIBRARY is defined, Rust's unless RUST is.
  */
 #define _POSIX_C_SOURCE 199309L
@@ -26,6 +26,7 @@ static const uint64_t every[4] = {UINT64_MAX, UINT64_MAX, UINT64_MAX, UINT64_MAX
 /* Each makes the call and says whether it was answered. */
 static bool lookup_plain(void) { return plain_lookup(in, size, every, code).refusal == 0; }
 static bool data_plain(void) { return plain_data(in, size, code).length > 0; }
+static bool copy_plain(void) { return plain_copy(in, size, code, out, ROOM).refusal == 0; }
 static bool present_plain(void) { return plain_present(in, size).refusal == 0; }
 static bool records_plain(void) { return plain_records(in, size, out, ROOM).refusal == 0; }
 static bool write_plain(void) { return plain_write(in, size, out, room, permission).refusal == 0; }
@@ -34,6 +35,7 @@ static bool write_plain(void) { return plain_write(in, size, out, room, permissi
 #define LIBRARY_SIDE(call) call##_library
 static bool lookup_library(void) { return dhcpopt_lookup(in, size, every[0], every[1], every[2], every[3], code).refusal == 0; }
 static bool data_library(void) { return dhcpopt_data(in, size, code).length > 0; }
+static bool copy_library(void) { return dhcpopt_copy(in, size, code, out, ROOM).refusal == 0; }
 static bool present_library(void) { return dhcpopt_present(in, size).refusal == 0; }
 static bool records_library(void) { return dhcpopt_records(in, size, out, ROOM).refusal == 0; }
 static bool write_library(void) { return dhcpopt_write(in, size, out, room, permission).refusal == 0; }
@@ -45,11 +47,13 @@ static bool write_library(void) { return dhcpopt_write(in, size, out, room, perm
 #define RUST_SIDE(call) call##_rust
 dhcpopt_answer independent_lookup(const uint8_t *m, size_t n, uint64_t k0, uint64_t k1, uint64_t k2, uint64_t k3, uint8_t code);
 dhcpopt_extent independent_data(const uint8_t *m, size_t n, uint8_t code);
+dhcpopt_filled independent_copy(const uint8_t *m, size_t n, uint8_t code, uint8_t *out, size_t room);
 dhcpopt_codes independent_present(const uint8_t *m, size_t n);
 dhcpopt_filled independent_records(const uint8_t *m, size_t n, uint8_t *out, size_t room);
 dhcpopt_wrote independent_write(const uint8_t *sheet, size_t n, uint8_t *m, size_t room, uint8_t permission);
 static bool lookup_rust(void) { return independent_lookup(in, size, every[0], every[1], every[2], every[3], code).refusal == 0; }
 static bool data_rust(void) { return independent_data(in, size, code).length > 0; }
+static bool copy_rust(void) { return independent_copy(in, size, code, out, ROOM).refusal == 0; }
 static bool present_rust(void) { return independent_present(in, size).refusal == 0; }
 static bool records_rust(void) { return independent_records(in, size, out, ROOM).refusal == 0; }
 static bool write_rust(void) { return independent_write(in, size, out, room, permission).refusal == 0; }
@@ -65,7 +69,7 @@ typedef struct {
 } call_sides;
 
 static const char *const names[3] = {"plain", "rust", "library"};
-static const call_sides calls[] = {SIDES(lookup), SIDES(data), SIDES(present), SIDES(records), SIDES(write)};
+static const call_sides calls[] = {SIDES(lookup), SIDES(data), SIDES(copy), SIDES(present), SIDES(records), SIDES(write)};
 
 static const call_sides *find(const char *name)
 {

@@ -96,6 +96,53 @@ def overloaded():
     )
 
 
+def long_vendor():
+    """An offer with an option 43 of 300 bytes in two pieces, others between and behind them."""
+    vendor = bytes(i % 251 for i in range(300))
+    return message(
+        option(53, b"\x02")
+        + option(54, address(1))
+        + option(43, vendor[:255])
+        + option(51, seconds(3600))
+        + option(1, bytes([255, 255, 255, 0]))
+        + option(43, vendor[255:])
+        + option(3, address(1))
+        + option(6, address(2))
+        + option(15, b"lan")
+        + END,
+        size=600,
+    )
+
+
+def cut_lease():
+    """The options of `overloaded`, but 51 cut at the end of file, as some servers cut."""
+    whole = overloaded()
+    lease = seconds(3600)
+    file = whole[108:236].rstrip(b"\0")[:-1] + option(51, lease[:3]) + END
+    sname = option(51, lease[3:]) + option(2, bytes([0, 0, 0x0E, 0x10])) + option(58, seconds(1800)) + option(59, seconds(3150)) + END
+    return message(whole[240:], sname, file)
+
+
+def nine():
+    """Nine options of 132 bytes."""
+    return message(b"".join(option(c, bytes((c + i) % 251 + 1 for i in range(132))) for c in range(200, 209)) + END)
+
+
+def pads():
+    """1,100 pads, then 51."""
+    return message(bytes(1100) + option(51, seconds(3600)) + END)
+
+
+def eight():
+    """Eight records of 150 bytes."""
+    return b"".join(record(c, bytes((c + i) % 251 + 1 for i in range(150))) for c in range(200, 208))
+
+
+def sheetlong():
+    """The records of `sheet15`, 43 of 300 bytes."""
+    return settings(b"boot.clinic.example", b"images/meter.bin", bytes(i % 251 for i in range(300)))
+
+
 def settings(name, root, vendor):
     """A sheet of fifteen records, as a box would offer them."""
     return (
@@ -154,7 +201,13 @@ else:
             ("offer.bin", offer()),
             ("many.bin", many()),
             ("overloaded.bin", overloaded()),
+            ("vendor.bin", long_vendor()),
+            ("cut.bin", cut_lease()),
+            ("nine.bin", nine()),
+            ("pads.bin", pads()),
             ("sheet15.sheet", sheet15()),
             ("sheetover.sheet", sheetover()),
+            ("sheetlong.sheet", sheetlong()),
+            ("eight.sheet", eight()),
         ],
     )

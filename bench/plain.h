@@ -1,4 +1,4 @@
-/* The reader and writer of document 01, with request 01 of document 02, in plain C: the measure for the library's calls. */
+/* The reader and writer of document 01, with requests 01 and 02 of document 02, in plain C: the measure for the library's calls. */
 #ifndef PLAIN_H
 #define PLAIN_H
 
@@ -31,8 +31,16 @@ enum {
 typedef struct {
     uint32_t status, kind, refusal, field;
     int64_t number;
-    size_t place, offset, start, length;
+    size_t place, offset, start, length, whole;
+    uint32_t several;
 } plain_answer;
+
+/* A piece of an option. */
+typedef struct {
+    uint8_t code;
+    uint32_t field;
+    size_t offset, start, length;
+} plain_piece;
 
 typedef struct {
     size_t start, length;
@@ -57,8 +65,10 @@ typedef struct {
 
 plain_answer plain_lookup(const uint8_t *m, size_t n, const uint64_t known[4], uint8_t code);
 plain_extent plain_data(const uint8_t *m, size_t n, uint8_t code);
+plain_filled plain_copy(const uint8_t *m, size_t n, uint8_t code, uint8_t *out, size_t room);
 plain_codes plain_present(const uint8_t *m, size_t n);
 plain_filled plain_records(const uint8_t *m, size_t n, uint8_t *out, size_t room);
+size_t plain_list(const uint8_t *m, size_t n, plain_piece *out); /* the pieces of an accepted message, for check.c; how many */
 plain_wrote plain_write(const uint8_t *sheet, size_t n, uint8_t *m, size_t room, uint8_t permission);
 
 #endif

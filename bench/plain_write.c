@@ -2,7 +2,7 @@
 
 #include <string.h>
 
-enum { LONGEST_SHEET = 4096, HEAD = 3, MASK = 1, ROUTER = 3 };
+enum { LONGEST_SHEET = 4096, LONGEST_RECORD = 1024, LONGEST_PIECE = 255, HEAD = 3, MASK = 1, ROUTER = 3 };
 enum { OVERLOAD_SIZE = 3, FILE_ROOM = COOKIE - FILE_FIELD - 1, SNAME_ROOM = FILE_FIELD - SNAME - 1 }; /* but END */
 
 static plain_wrote refused(uint32_t refusal, size_t place)
@@ -26,7 +26,7 @@ static plain_wrote judge(const uint8_t *s, size_t n, size_t *size)
             return refused(12, i);
         if (c == PAD || c == OVERLOAD || c == END)
             return refused(10, i);
-        if (length > 255)
+        if (length > LONGEST_RECORD)
             return refused(13, i);
         uint64_t bit = (uint64_t)1 << (c % 64);
         if (seen[c / 64] & bit)
@@ -42,61 +42,110 @@ static plain_wrote judge(const uint8_t *s, size_t n, size_t *size)
         if (c == MASK)
             late = seen[0] >> ROUTER & 1;
         taken--; /* an option's length takes one byte, a record's two */
+        if (length > LONGEST_PIECE)
+            taken += (length - 1) / LONGEST_PIECE * 2; /* a head for each piece but the first */
         i += HEAD + length;
     }
     *size = taken;
     return late ? refused(14, router) : refused(0, 0);
 }
 
-/* The first record from i on that does not fit into the room, n if all do. */
-static size_t fitting(const uint8_t *s, size_t i, size_t n, size_t room)
+/* A place between two pieces: a record, and how many of its data bytes stand before. */
+typedef struct {
+    size_t i, done;
+} cut;
+
+/* The first piece from p on that does not fit into the room; the sheet's end if all do. */
+static cut fitting(const uint8_t *s, cut p, size_t n, size_t room)
 {
-    while (i < n && s[i + 2] + 2u <= room) {
-        room -= s[i + 2] + 2u;
-        i += HEAD + s[i + 2];
+    while (p.i < n) {
+        const uint8_t *record = s + p.i;
+        if (record[1] == 0) { /* one piece */
+            if (room < record[2] + 2u)
+                break;
+            room -= record[2] + 2u;
+            p.i += HEAD + record[2];
+            continue;
+        }
+        size_t left = number16(record + 1) - p.done;
+        size_t piece = left > LONGEST_PIECE ? LONGEST_PIECE : left;
+        if (room < piece + 2)
+            break;
+        room -= piece + 2;
+        p.done += piece;
+        if (piece == left)
+            p = (cut){p.i + HEAD + p.done, 0};
     }
-    return i;
+    return p;
 }
 
-/* How the records are shared out: options has those before `options`, file the next before `file`, sname the rest. */
+/* How the pieces are shared out: options has those before `options`, file the next before `file`, sname the rest. */
 typedef struct {
     uint32_t number;
-    size_t options, file;
+    cut options, file;
 } plan;
 
 /* Finds the first permitted plan that fits. */
 static bool find_plan(plan *p, const uint8_t *s, size_t n, size_t size, size_t room, uint8_t permission)
 {
+    cut first = {0, 0}, last = {n, 0};
     if (size < room) {
-        *p = (plan){0, n, n};
+        *p = (plan){0, last, last};
         return true;
     }
     if (permission == 0 || room < OVERLOAD_SIZE + 1)
         return false;
-    size_t options = fitting(s, 0, n, room - OVERLOAD_SIZE - 1);
-    size_t file = permission & 1 ? fitting(s, options, n, FILE_ROOM) : options;
-    if ((permission & 1) && file == n) {
-        *p = (plan){1, options, n};
+    cut options = fitting(s, first, n, room - OVERLOAD_SIZE - 1);
+    cut file = permission & 1 ? fitting(s, options, n, FILE_ROOM) : options;
+    if ((permission & 1) && file.i == n) {
+        *p = (plan){1, options, last};
         return true;
     }
-    if ((permission & 2) && fitting(s, options, n, SNAME_ROOM) == n) {
+    if ((permission & 2) && fitting(s, options, n, SNAME_ROOM).i == n) {
         *p = (plan){2, options, options};
         return true;
     }
     *p = (plan){3, options, file};
-    return permission == 3 && fitting(s, file, n, SNAME_ROOM) == n;
+    return permission == 3 && fitting(s, file, n, SNAME_ROOM).i == n;
 }
 
-/* Writes the records from i up to stop as options, then END and zeros up to end. */
-static void fill(uint8_t *out, uint8_t *end, const uint8_t *s, size_t i, size_t stop)
+/* Writes the data of a record from one place to another as pieces. */
+static uint8_t *put_pieces(uint8_t *out, const uint8_t *record, size_t from, size_t upto)
 {
-    while (i < stop) {
-        size_t length = s[i + 2];
-        out[0] = s[i];
-        memcpy(out + 1, s + i + 2, length + 1);
-        out += length + 2;
-        i += HEAD + length;
+    while (from < upto) {
+        size_t piece = upto - from > LONGEST_PIECE ? LONGEST_PIECE : upto - from;
+        *out++ = record[0];
+        *out++ = (uint8_t)piece;
+        memcpy(out, record + HEAD + from, piece);
+        out += piece;
+        from += piece;
     }
+    return out;
+}
+
+/* Writes the pieces from p up to stop as options, then END and zeros up to end. */
+static void fill(uint8_t *out, uint8_t *end, const uint8_t *s, cut p, cut stop)
+{
+    const uint8_t *record = s + p.i, *last = s + stop.i;
+    if (p.done > 0 && record < last) {
+        size_t length = number16(record + 1);
+        out = put_pieces(out, record, p.done, length);
+        record += HEAD + length;
+        p.done = 0;
+    }
+    while (record < last) {
+        size_t length = number16(record + 1);
+        if (length <= LONGEST_PIECE) {
+            out[0] = record[0];
+            memcpy(out + 1, record + 2, length + 1);
+            out += length + 2;
+        } else {
+            out = put_pieces(out, record, 0, length);
+        }
+        record += HEAD + length;
+    }
+    if (p.done < stop.done)
+        out = put_pieces(out, last, p.done, stop.done);
     *out++ = END;
     memset(out, 0, (size_t)(end - out));
 }
@@ -126,11 +175,11 @@ plain_wrote plain_write(const uint8_t *sheet, size_t n, uint8_t *m, size_t room,
         *out++ = 1;
         *out++ = (uint8_t)p.number;
     }
-    fill(out, m + room, sheet, 0, p.options);
+    fill(out, m + room, sheet, (cut){0, 0}, p.options);
     if (p.number & 1)
         fill(m + FILE_FIELD, m + COOKIE, sheet, p.options, p.file);
     if (p.number & 2)
-        fill(m + SNAME, m + FILE_FIELD, sheet, p.file, n);
+        fill(m + SNAME, m + FILE_FIELD, sheet, p.file, (cut){n, 0});
     w.plan = p.number;
     return w;
 }

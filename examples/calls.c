@@ -49,10 +49,21 @@ typedef struct {
     size_t offset, start;
 } origin;
 
-static int answers(dhcpopt_answer a, content c, origin o)
+static int says(dhcpopt_answer a, content c, origin o)
 {
     return a.status == c.status && a.kind == c.kind && a.refusal == c.refusal && a.number == c.number && a.place == c.place &&
            a.length == c.length && a.field == o.field && a.offset == o.offset && a.start == o.start;
+}
+
+/* Of a code in one piece, and of one in several, which have so many bytes together. */
+static int answers(dhcpopt_answer a, content c, origin o)
+{
+    return says(a, c, o) && a.several == 0 && a.whole == 0;
+}
+
+static int joins(dhcpopt_answer a, content c, origin o, size_t whole)
+{
+    return says(a, c, o) && a.several == 1 && a.whole == whole;
 }
 
 static const origin NOWHERE = {DHCPOPT_FIELD_NONE, 0, 0};
@@ -85,7 +96,7 @@ static void lookup(void)
     CHECK(is_part(dhcpopt_data(message, n, 51), 110, 4));
     n = OVERLOADED("\x34\x01\x01\xff", "", "");
     CHECK(refuses(dhcpopt_lookup_known(message, n, all, 51), DHCPOPT_REFUSED_NO_END, 236));
-    n = MESSAGE("\x35\x01\x05\x35\x01\x05\xff"); /* 8 */
+    n = MESSAGE("\x34\x01\x01\x34\x01\x01\xff"); /* a second 52 */
     CHECK(refuses(dhcpopt_lookup_known(message, n, all, 53), DHCPOPT_REFUSED_DUPLICATE, 243));
 }
 
@@ -124,6 +135,56 @@ static void origins(void)
     }
     CHECK(strcmp(dhcpopt_field_name(DHCPOPT_FIELD_OPTIONS), "options") == 0 && strcmp(dhcpopt_field_name(DHCPOPT_FIELD_FILE), "file") == 0);
     CHECK(strcmp(dhcpopt_field_name(DHCPOPT_FIELD_SNAME), "sname") == 0 && strcmp(dhcpopt_field_name(DHCPOPT_FIELD_NONE), "") == 0);
+}
+
+/* Every kind of answer in several pieces; each names the first. Request 02 makes case 8 broken, as below. */
+static const struct {
+    uint8_t code;
+    content says;
+    origin from;
+    size_t whole;
+} JOINED[] = {
+    {53, {DHCPOPT_STATUS_BROKEN, 0, DHCPOPT_REFUSED_BAD_LENGTH, 0, 243, 0}, {DHCPOPT_FIELD_OPTIONS, 3, 245}, 2},
+    {12, {DHCPOPT_STATUS_PART, DHCPOPT_KIND_TEXT, 0, 0, 0, 2}, {DHCPOPT_FIELD_OPTIONS, 6, 248}, 4},
+    {51, {DHCPOPT_STATUS_NUMBER, DHCPOPT_KIND_UINT32, 0, 3600, 0, 0}, {DHCPOPT_FIELD_OPTIONS, 10, 252}, 4},
+    {224, {DHCPOPT_STATUS_UNKNOWN, 0, 0, 0, 0, 0}, {DHCPOPT_FIELD_FILE, 9, 119}, 0},
+};
+
+static void pieces(void)
+{
+    static const uint8_t text[6] = {'a', 'b', 0, 0, 238, 238};
+    uint8_t out[6];
+    size_t n = OVERLOADED("\x34\x01\x03\x35\x01\x05\x0c\x02" "ab\x33\x01\x00\xff", "\x35\x01\x05\x33\x02\x00\x0e\x0c\x00\xe0\x00\xff",
+                          "\x33\x01\x10\x0c\x02\x00\x00\xe0\x00\xff");
+    for (size_t i = 0; i < sizeof JOINED / sizeof JOINED[0]; i++) {
+        CHECK(joins(dhcpopt_lookup_known(message, n, dhcpopt_known_all(), JOINED[i].code), JOINED[i].says, JOINED[i].from, JOINED[i].whole));
+        content unknown = {DHCPOPT_STATUS_UNKNOWN, 0, 0, 0, 0, JOINED[i].whole};
+        CHECK(joins(dhcpopt_lookup_known(message, n, NONE, JOINED[i].code), unknown, JOINED[i].from, JOINED[i].whole));
+        CHECK(is_part(dhcpopt_data(message, n, JOINED[i].code), 0, 0));
+    }
+    CHECK(is_part(dhcpopt_text_known(message, n, dhcpopt_known_all(), 12), 0, 0));
+    CHECK(dhcpopt_present(message, n).count == 5);
+    memset(out, 238, sizeof out);
+    dhcpopt_filled f = dhcpopt_copy(message, n, 12, out, 3);
+    CHECK(f.refusal == DHCPOPT_REFUSED_NO_ROOM && f.size == 0 && f.place == 3);
+    f = dhcpopt_copy(message, n, 15, out, sizeof out);
+    CHECK(f.refusal == DHCPOPT_REFUSED_NO_ROOM && f.size == 0 && f.place == 0);
+    f = dhcpopt_copy(message, n, 255, out, sizeof out);
+    CHECK(f.refusal == DHCPOPT_REFUSED_BAD_CODE && f.size == 0 && f.place == 0);
+    f = dhcpopt_copy(message, 239, 12, out, sizeof out);
+    CHECK(f.refusal == DHCPOPT_REFUSED_TOO_SHORT && f.size == 0 && f.place == 239);
+    f = dhcpopt_copy(message, n, 224, out, 0);
+    CHECK(f.refusal == DHCPOPT_NOT_REFUSED && f.size == 0 && f.place == 0);
+    CHECK(out[0] == 238 && memcmp(out, out + 1, sizeof out - 1) == 0);
+    f = dhcpopt_copy(message, n, 12, out, sizeof out);
+    CHECK(f.refusal == DHCPOPT_NOT_REFUSED && f.size == 4 && f.place == 0);
+    CHECK(memcmp(out, text, sizeof out) == 0);
+    f = dhcpopt_copy(message, n, 52, out, sizeof out); /* one piece is copied as well */
+    CHECK(f.refusal == DHCPOPT_NOT_REFUSED && f.size == 1 && f.place == 0 && out[0] == 3);
+    n = MESSAGE("\x35\x01\x05\x35\x01\x05\xff"); /* 8 */
+    content broken = {DHCPOPT_STATUS_BROKEN, 0, DHCPOPT_REFUSED_BAD_LENGTH, 0, 240, 0};
+    origin first = {DHCPOPT_FIELD_OPTIONS, 0, 242};
+    CHECK(joins(dhcpopt_lookup_known(message, n, dhcpopt_known_all(), 53), broken, first, 2));
 }
 
 static void parts(void)
@@ -194,15 +255,42 @@ static void write_sheet(void)
     CHECK(memcmp(message, wanted, sizeof wanted) == 0 && message[244] == 170);
 }
 
+/* A record of the most bytes: four pieces of 255 and one of 4, each a code, a length and data, take 1,034 bytes. */
+static void write_long(void)
+{
+    static uint8_t sheet[3 + DHCPOPT_LONGEST_RECORD + 1] = {43, 4, 0};
+    uint8_t back[sizeof sheet];
+    size_t at = DHCPOPT_OPTIONS_OFFSET;
+    for (size_t i = 0; i < DHCPOPT_LONGEST_RECORD; i++)
+        sheet[3 + i] = (uint8_t)(i % 251);
+    dhcpopt_wrote w = dhcpopt_write(sheet, sizeof sheet - 1, message, 240 + 1034, DHCPOPT_OVERLOAD_NONE);
+    CHECK(w.refusal == DHCPOPT_REFUSED_NO_ROOM && w.place == 240 + 1034);
+    w = dhcpopt_write(sheet, sizeof sheet - 1, message, 240 + 1034 + 1, DHCPOPT_OVERLOAD_NONE);
+    CHECK(w.refusal == DHCPOPT_NOT_REFUSED && w.plan == DHCPOPT_OVERLOAD_NONE && w.place == 0);
+    for (size_t done = 0; done < DHCPOPT_LONGEST_RECORD; done += DHCPOPT_LONGEST_PIECE) {
+        size_t length = done == 1020 ? 4 : 255;
+        CHECK(message[at] == 43 && message[at + 1] == length && memcmp(message + at + 2, sheet + 3 + done, length) == 0);
+        at += 2 + length;
+    }
+    CHECK(at == 240 + 1034 && message[at] == 255);
+    dhcpopt_filled f = dhcpopt_records(message, at + 1, back, sizeof back);
+    CHECK(f.refusal == DHCPOPT_NOT_REFUSED && f.size == 3 + 1024 && memcmp(back, sheet, f.size) == 0);
+    sheet[2] = 1;
+    w = dhcpopt_write(sheet, sizeof sheet, message, sizeof message, DHCPOPT_OVERLOAD_BOTH);
+    CHECK(w.refusal == DHCPOPT_REFUSED_RECORD_TOO_LONG && w.plan == 0 && w.place == 0);
+}
+
 int main(void)
 {
     lookup();
     origins();
+    pieces();
     parts();
     address_step();
     present();
     records();
     write_sheet();
+    write_long();
     if (!failed)
         printf("every member is as declared\n");
     return failed;

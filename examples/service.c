@@ -41,13 +41,13 @@ static const struct {
     [DHCPOPT_REFUSED_OPTION_TRUNCATED] = {"an option goes beyond its field", "its code byte"},
     [DHCPOPT_REFUSED_NO_END] = {"a field has no END", "the first byte after it"},
     [DHCPOPT_REFUSED_BAD_OVERLOAD] = {"option 52 is in file or sname, or is not one byte from 1 to 3", "its code byte"},
-    [DHCPOPT_REFUSED_DUPLICATE] = {"a code is there twice", "the later one"},
+    [DHCPOPT_REFUSED_DUPLICATE] = {"option 52, or a tag of the sheet, is there twice", "the later one"},
     [DHCPOPT_REFUSED_BAD_LENGTH] = {"the length is wrong for this code", "its code or tag byte"},
     [DHCPOPT_REFUSED_BAD_VALUE] = {"the value is wrong for this code", "its code or tag byte"},
     [DHCPOPT_REFUSED_BAD_CODE] = {"0, 52 and 255 are no settings", "the tag byte"},
     [DHCPOPT_REFUSED_NO_ROOM] = {"the settings do not fit with this permission", "the message's length"},
     [DHCPOPT_REFUSED_RECORD_TRUNCATED] = {"a record goes beyond the sheet", "its tag byte"},
-    [DHCPOPT_REFUSED_RECORD_TOO_LONG] = {"a record has more than 255 data bytes", "its tag byte"},
+    [DHCPOPT_REFUSED_RECORD_TOO_LONG] = {"a record has more than 1,024 data bytes", "its tag byte"},
     [DHCPOPT_REFUSED_ROUTER_BEFORE_MASK] = {"the router (3) stands before the subnet mask (1)", "the byte of tag 3"},
     [DHCPOPT_REFUSED_BAD_PERMISSION] = {"the permission is over 3", "always 0"},
     [DHCPOPT_REFUSED_SHEET_TOO_LONG] = {"the sheet is over 4,096 bytes", "its length"},
@@ -132,15 +132,27 @@ static void tell_text(const uint8_t *text, size_t size)
     printf("\"");
 }
 
+/* The bytes of a part. Those of a code in several pieces lie apart, and are copied together; the buffer is long enough for any message. */
+static const uint8_t *bytes_of(size_t size, uint8_t code, const dhcpopt_answer *a)
+{
+    static uint8_t joined[DHCPOPT_LONGEST_MESSAGE];
+    if (!a->several)
+        return message + a->start;
+    dhcpopt_copy(message, size, code, joined, sizeof joined);
+    return joined;
+}
+
 /* Behind what comes from an option stands its field. Without a default the compiler tells of a status that was left out. */
-static void tell_answer(const dhcpopt_answer *a, const char *unit)
+static void tell_answer(size_t size, uint8_t code, const dhcpopt_answer *a, const char *unit)
 {
     switch ((enum dhcpopt_status)a->status) {
     case DHCPOPT_STATUS_ABSENT:
         printf("absent");
         break;
     case DHCPOPT_STATUS_UNKNOWN:
-        printf("unknown to the meter, %zu bytes at %zu", a->length, a->start);
+        printf("unknown to the meter");
+        if (!a->several)
+            printf(", %zu bytes at %zu", a->length, a->start);
         break;
     case DHCPOPT_STATUS_REFUSED:
         tell_refusal("refused", a->refusal, a->place);
@@ -153,12 +165,14 @@ static void tell_answer(const dhcpopt_answer *a, const char *unit)
         break;
     case DHCPOPT_STATUS_PART:
         if (a->kind == DHCPOPT_KIND_TEXT)
-            tell_text(message + a->start, a->length);
+            tell_text(bytes_of(size, code, a), a->length);
         else
-            tell_addresses(message + a->start, a->length);
+            tell_addresses(bytes_of(size, code, a), a->length);
         break;
     }
-    if (a->field != DHCPOPT_FIELD_NONE)
+    if (a->several)
+        printf(", %zu bytes in several pieces, the first in %s", a->whole, dhcpopt_field_name(a->field));
+    else if (a->field != DHCPOPT_FIELD_NONE)
         printf(", in %s", dhcpopt_field_name(a->field));
     printf("\n");
 }
@@ -171,12 +185,12 @@ static int read_settings(size_t size, dhcpopt_known known)
         printf("\n");
         return REFUSED;
     }
-    printf("accepted: %zu bytes, %" PRIu32 " options\n", size, codes.count);
+    printf("accepted: %zu bytes, %" PRIu32 " codes\n", size, codes.count);
     int result = DONE;
     for (size_t i = 0; i < sizeof SETTINGS / sizeof SETTINGS[0]; i++) {
         dhcpopt_answer a = dhcpopt_lookup_known(message, size, known, SETTINGS[i].code);
         printf("%s (%d): ", SETTINGS[i].name, SETTINGS[i].code);
-        tell_answer(&a, SETTINGS[i].unit);
+        tell_answer(size, SETTINGS[i].code, &a, SETTINGS[i].unit);
         if (a.status == DHCPOPT_STATUS_REFUSED || a.status == DHCPOPT_STATUS_BROKEN)
             result = REFUSED;
     }

@@ -1,5 +1,5 @@
 /*
- * The options of one DHCPv4 message (RFC 2131, RFC 2132): a reader and a writer, for C11 and C++17 on x86-64 Linux.
+ * The options of one DHCPv4 message (RFC 2131, RFC 2132, RFC 3396): a reader and a writer, for C11 and C++17 on x86-64 Linux.
  *
  * libdhcpopt_reader.a has every call but dhcpopt_write, and libdhcpopt_writer.a has that one alone, so a meter that only
  * reads links the reader's archive alone. docs/C-API.md has an example of each call.
@@ -22,10 +22,11 @@
 /*
  * The version of this header: 100 * major + minor. The major number grows where a program must change (a call, a struct, the meaning
  * of an answer), the minor one where calls or names are added. The archives carry no version: take header and archives from one state.
- * 2.0: a lookup's answer says which field it comes from, and a broken option has a status of its own. docs/C-API.md, 'What changed in
- * version 2', says what to do.
+ * 2.0: a lookup's answer says which field it comes from, and a broken option has a status of its own.
+ * 3.0: a code may come in several pieces, in one field or over several (RFC 3396). A lookup answers for all of them together, and
+ * dhcpopt_copy gives their bytes. docs/C-API.md, 'What changed in version 3', says what to do.
  */
-#define DHCPOPT_VERSION_MAJOR 2
+#define DHCPOPT_VERSION_MAJOR 3
 #define DHCPOPT_VERSION_MINOR 0
 #define DHCPOPT_VERSION (100 * DHCPOPT_VERSION_MAJOR + DHCPOPT_VERSION_MINOR)
 
@@ -56,20 +57,23 @@ enum dhcpopt_layout {
 /* Sizes in bytes. */
 enum dhcpopt_limit {
     DHCPOPT_SHORTEST_MESSAGE = 240,
-    DHCPOPT_LONGEST_MESSAGE = 1472,
+    DHCPOPT_LONGEST_MESSAGE = 1472, /* so it is enough for dhcpopt_copy too */
+    DHCPOPT_LONGEST_PIECE = 255,    /* of an option's data in a message */
+    DHCPOPT_LONGEST_RECORD = 1024,  /* of data in a record that dhcpopt_write takes */
     DHCPOPT_LONGEST_SHEET = 4096 /* that dhcpopt_write takes. The records of a message are always shorter */
 };
 
 /*
  * What a lookup found, and after the colon what the answer then gives. From an option, which is every status but ABSENT and REFUSED, it
- * also gives where that option stands: field, offset and start.
+ * also gives where that option stands: field, offset and start. Of a code in several pieces that is the first of them, and a kind, number
+ * or length is that of the bytes of all pieces, end to end in reading order (options, file, sname).
  */
 enum dhcpopt_status {
     DHCPOPT_STATUS_ABSENT = 0,
     DHCPOPT_STATUS_UNKNOWN = 1, /* the code is not in the known set, or has no kind: length of its data */
     DHCPOPT_STATUS_REFUSED = 2, /* the message, or the code asked for, is refused: refusal (1 to 7, 10) and place */
     DHCPOPT_STATUS_NUMBER = 3,  /* kind and number */
-    DHCPOPT_STATUS_PART = 4,    /* kind, and length of its bytes, which begin at start */
+    DHCPOPT_STATUS_PART = 4,    /* kind, and length of its bytes. Unless several is 1 they begin at start; else dhcpopt_copy gives them */
     DHCPOPT_STATUS_BROKEN = 5   /* length or value of this option is wrong: refusal (8 or 9), and place, that of its code byte */
 };
 
@@ -109,13 +113,13 @@ enum dhcpopt_refusal {
     DHCPOPT_REFUSED_OPTION_TRUNCATED = 4,    /* length byte or data beyond the field: the code byte */
     DHCPOPT_REFUSED_NO_END = 5,              /* field without END: the first byte after the field */
     DHCPOPT_REFUSED_BAD_OVERLOAD = 6,        /* option 52 in file or sname, or not one byte from 1 to 3: its code byte */
-    DHCPOPT_REFUSED_DUPLICATE = 7,           /* code or tag met again: the later one */
+    DHCPOPT_REFUSED_DUPLICATE = 7,           /* reading, a second option 52; writing, a tag met again: the later one */
     DHCPOPT_REFUSED_BAD_LENGTH = 8,          /* the length breaks the kind: the code or tag byte */
     DHCPOPT_REFUSED_BAD_VALUE = 9,           /* the value breaks the kind: the code or tag byte */
     DHCPOPT_REFUSED_BAD_CODE = 10,           /* reading, asked for code 0 or 255: 0. Writing, tag 0, 52 or 255: the tag byte */
-    DHCPOPT_REFUSED_NO_ROOM = 11,            /* reading, out too small: room. Writing, no permitted plan fits: the buffer's size */
+    DHCPOPT_REFUSED_NO_ROOM = 11,            /* out too small: room. A code to copy is absent: 0. Writing, no permitted plan fits: size */
     DHCPOPT_REFUSED_RECORD_TRUNCATED = 12,   /* record head or data beyond the sheet: the tag byte */
-    DHCPOPT_REFUSED_RECORD_TOO_LONG = 13,    /* record of more than 255 data bytes: the tag byte */
+    DHCPOPT_REFUSED_RECORD_TOO_LONG = 13,    /* record of more than 1,024 data bytes: the tag byte */
     DHCPOPT_REFUSED_ROUTER_BEFORE_MASK = 14, /* tag 3 stands before tag 1: the byte of tag 3 */
     DHCPOPT_REFUSED_BAD_PERMISSION = 15,     /* permission over 3: 0 */
     DHCPOPT_REFUSED_SHEET_TOO_LONG = 16      /* sheet over 4,096 bytes: its length */
@@ -140,6 +144,8 @@ typedef struct {
     size_t offset; /* of the code byte in its field */
     size_t start;  /* of the data in the message: the field's first byte + offset + 2, at length 0 too */
     size_t length;
+    size_t whole;     /* where several is 1: the bytes of all pieces together, a text's trailing zeros counted */
+    uint32_t several; /* 1 where the code comes in two or more pieces, empty ones counted */
 } dhcpopt_answer;
 
 /* A part of the message. An empty one is 0 and 0. */
@@ -164,7 +170,7 @@ typedef struct {
     size_t place;
 } dhcpopt_codes;
 
-/* What dhcpopt_records gave: size bytes, or a refusal. */
+/* What dhcpopt_records or dhcpopt_copy gave: size bytes, or a refusal. */
 typedef struct {
     uint32_t refusal; /* DHCPOPT_NOT_REFUSED, or size is 0 */
     size_t size;
@@ -183,18 +189,29 @@ typedef struct {
  * The set never decides whether the message is accepted.
  * Refused, in this order: 10 at 0; 1 or 2 at the length; 3 at 236; the first fault of the message in reading order (options, file,
  * sname): 4, 6 or 7 at its code byte, or 5 at the first byte after the field. A known code that is there may then be broken: 8 or else 9,
- * at its code byte. That refuses neither the message nor the lookup of any other code.
+ * at the code byte of its first piece. That refuses neither the message nor the lookup of any other code.
  */
 dhcpopt_answer dhcpopt_lookup(const uint8_t *message, size_t size, uint64_t k0, uint64_t k1, uint64_t k2, uint64_t k3, uint8_t code);
 
 /*
  * All data bytes of a code, whatever its kind, also where the lookup finds it broken.
- * Empty where the code is absent or has no data, and on a refusal: dhcpopt_lookup names the cause.
+ * Empty where the code is absent, has no data or comes in several pieces, and on a refusal: dhcpopt_lookup names the cause.
  */
 dhcpopt_extent dhcpopt_data(const uint8_t *message, size_t size, uint8_t code);
 
-/* The text of a code, without its trailing zeros. Empty unless the lookup with the same known set answers with a text. */
+/*
+ * The text of a code, without its trailing zeros. Empty unless the lookup with the same known set answers with a text, and where the
+ * code comes in several pieces.
+ */
 dhcpopt_extent dhcpopt_text(const uint8_t *message, size_t size, uint64_t k0, uint64_t k1, uint64_t k2, uint64_t k3, uint8_t code);
+
+/*
+ * Copies the data bytes of a code to the front of out, those of all its pieces end to end, trailing zeros included, whatever its kind.
+ * Bytes of out after the given ones stay as they were. A refusal leaves all of out as it was.
+ * Refused by 10 at 0; by 1 to 7, with places as in dhcpopt_lookup; then by 11, at 0 where the code is absent, at room where out is too
+ * small. A room of DHCPOPT_LONGEST_MESSAGE is always enough.
+ */
+dhcpopt_filled dhcpopt_copy(const uint8_t *message, size_t size, uint8_t code, uint8_t *out, size_t room);
 
 /*
  * The address at a place of a list: begin with at = 0, go on at next, until given is 0. list and size are those of the data
@@ -202,11 +219,12 @@ dhcpopt_extent dhcpopt_text(const uint8_t *message, size_t size, uint64_t k0, ui
  */
 dhcpopt_address dhcpopt_address_step(const uint8_t *list, size_t size, size_t at);
 
-/* The codes present, 52 included. Refused by 1 to 7, with places as in dhcpopt_lookup. */
+/* The codes present, each once, 52 included. Refused by 1 to 7, with places as in dhcpopt_lookup. */
 dhcpopt_codes dhcpopt_present(const uint8_t *message, size_t size);
 
 /*
- * Every option but 52, in reading order, as records in out: tag (1 byte), length (2 bytes, the high byte first), data.
+ * Every code but 52, in the order of their first pieces, as records in out: tag (1 byte), length (2 bytes, the high byte first), data,
+ * that of all pieces of the code.
  * Bytes of out after the given ones stay as they were. A refusal leaves all of out as it was.
  * Refused by 1 to 7, with places as in dhcpopt_lookup, then by 11 at room. A room of DHCPOPT_LONGEST_SHEET is always enough.
  */
@@ -214,6 +232,7 @@ dhcpopt_filled dhcpopt_records(const uint8_t *message, size_t size, uint8_t *out
 
 /*
  * Writes a sheet of such records into a message buffer. The whole buffer, all its size bytes, is then the message.
+ * A record of more than 255 data bytes is cut into pieces of 255 and a last one of 1 to 255, in order; each is whole in one field.
  * Permitted plans are tried rising, and the first that fits is used. Written are the cookie, the options field and whichever of file
  * and sname the plan uses, each to its last byte; the header and an unused file or sname stay as they were.
  * A refusal leaves all of the buffer as it was. Refused, in this order: 1 or 2 at size; 15 at 0; 16 at sheet_size; the first faulty
@@ -267,7 +286,7 @@ static inline const char *dhcpopt_field_name(uint32_t field)
     DHCPOPT_ASSERT(offsetof(type, member) == (at) && DHCPOPT_SIZE(type, member) == (bytes))
 
 DHCPOPT_ASSERT(sizeof(void *) == 8 && sizeof(size_t) == 8);
-DHCPOPT_ASSERT(sizeof(dhcpopt_answer) == 56);
+DHCPOPT_ASSERT(sizeof(dhcpopt_answer) == 72);
 DHCPOPT_MEMBER(dhcpopt_answer, status, 0, 4);
 DHCPOPT_MEMBER(dhcpopt_answer, kind, 4, 4);
 DHCPOPT_MEMBER(dhcpopt_answer, refusal, 8, 4);
@@ -277,6 +296,8 @@ DHCPOPT_MEMBER(dhcpopt_answer, place, 24, 8);
 DHCPOPT_MEMBER(dhcpopt_answer, offset, 32, 8);
 DHCPOPT_MEMBER(dhcpopt_answer, start, 40, 8);
 DHCPOPT_MEMBER(dhcpopt_answer, length, 48, 8);
+DHCPOPT_MEMBER(dhcpopt_answer, whole, 56, 8);
+DHCPOPT_MEMBER(dhcpopt_answer, several, 64, 4);
 DHCPOPT_ASSERT(sizeof(dhcpopt_extent) == 16);
 DHCPOPT_MEMBER(dhcpopt_extent, start, 0, 8);
 DHCPOPT_MEMBER(dhcpopt_extent, length, 8, 8);

@@ -1,4 +1,4 @@
-"""A reader of messages of its own, written from document 01 and request 01 of document 02 alone."""
+"""A reader of messages of its own, written from document 01 and requests 01 and 02 of document 02 alone."""
 
 from typing import NamedTuple
 
@@ -39,8 +39,9 @@ class Refused(Exception):
     pass
 
 
-class Option(NamedTuple):
-    """Where an option was met: the field that holds its code byte, that byte's offset in it, and its place in the message."""
+class Piece(NamedTuple):
+    """Where a piece was met: the field that holds its code byte, that byte's offset in it, and its place in the message."""
+    code: int
     field: str
     offset: int
     at: int
@@ -48,43 +49,66 @@ class Option(NamedTuple):
     data: bytes
 
 
+class Option(NamedTuple):
+    """The pieces with one code, joined in reading order."""
+    first: Piece
+    pieces: int
+    data: bytes
+
+
 FIELDS = {"options": (240, None), "file": (108, 236), "sname": (44, 108)}  # first byte, first byte after
 
 
 def walk(m, field, met):
-    """Add the options of a field to met (code: Option), in order."""
+    """Add the pieces of a field to met, in order. Gives the value of option 52, or 0."""
     first, end = FIELDS[field][0], FIELDS[field][1] or len(m)
-    i = first
+    i, overload = first, 0
     while i < end:
         code = m[i]
         if code == 255:
-            return
+            return overload
         if code == 0:
             i += 1
             continue
         if i + 1 == end or i + 2 + m[i + 1] > end:
             raise Refused(4, i)
-        if code == 52 and (field != "options" or m[i + 1] != 1 or m[i + 2] not in (1, 2, 3)):
-            raise Refused(6, i)
-        if code in met:
-            raise Refused(7, i)
-        met[code] = Option(field, i - first, i, i + 2, m[i + 2:i + 2 + m[i + 1]])
+        if code == 52:
+            if field != "options" or m[i + 1] != 1 or m[i + 2] not in (1, 2, 3):
+                raise Refused(6, i)
+            if overload:
+                raise Refused(7, i)
+            overload = m[i + 2]
+        met.append(Piece(code, field, i - first, i, i + 2, m[i + 2:i + 2 + m[i + 1]]))
         i += 2 + m[i + 1]
     raise Refused(5, end)
 
 
 def read(m):
+    """The pieces of a message in reading order."""
     if len(m) < 240:
         raise Refused(1, len(m))
     if len(m) > 1472:
         raise Refused(2, len(m))
     if list(m[236:240]) != [99, 130, 83, 99]:
         raise Refused(3, 236)
-    met = {}
-    walk(m, "options", met)
-    overload = met[52].data[0] if 52 in met else None
+    met = []
+    overload = walk(m, "options", met)
     if overload in (1, 3):
         walk(m, "file", met)
     if overload in (2, 3):
         walk(m, "sname", met)
     return met
+
+
+def join(met):
+    """The options that the pieces make, by code, in the order of their first pieces."""
+    options = {}
+    for piece in met:
+        before = options.get(piece.code)
+        options[piece.code] = Option(before.first, before.pieces + 1, before.data + piece.data) if before else Option(piece, 1, piece.data)
+    return options
+
+
+def records(options):
+    """A record for every option but 52."""
+    return b"".join(bytes([code]) + len(option.data).to_bytes(2, "big") + option.data for code, option in options.items() if code != 52)

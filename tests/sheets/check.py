@@ -1,12 +1,12 @@
 #!/usr/bin/env python3
-"""Write every sheet of crates/sheets/stdin by document 01 anew and hold every line of crates/sheets/stdout to it."""
+"""Write every sheet of crates/sheets/stdin by document 01 and request 02 anew and hold every line of crates/sheets/stdout to it."""
 
 import sys
 from pathlib import Path
 
 HERE = Path(__file__).resolve().parent
 sys.path.append(str(HERE.parent))
-from reader import Refused, read, row_of
+from reader import Refused, join, read, records, row_of
 
 OUT = HERE.parent.parent / "crates" / "sheets"
 
@@ -25,7 +25,7 @@ def fault(sheet, at, met):
         return 12
     if tag in (0, 52, 255):
         return 10
-    if length > 255:
+    if length > 1024:
         return 13
     if tag in met:
         return 7
@@ -44,7 +44,7 @@ def judge(sheet):
         number = fault(sheet, at, met)
         if number:
             raise Refused(number, at)
-        tag, length = sheet[at], sheet[at + 2]
+        tag, length = sheet[at], int.from_bytes(sheet[at + 1:at + 3], "big")
         met[tag], places[tag] = sheet[at + 3:at + 3 + length], at
         at += 3 + length
     if 1 in places and 3 in places and places[3] < places[1]:
@@ -52,16 +52,23 @@ def judge(sheet):
     return met
 
 
+def pieces(tag, data):
+    """The options that a record becomes: one, or pieces of 255 bytes and a last one."""
+    while len(data) > 255:
+        yield bytes((tag, 255)) + data[:255]
+        data = data[255:]
+    yield bytes((tag, len(data))) + data
+
+
 def place(records, plan, length):
-    """What each field of the plan holds, END included; None where a record or an END finds no room."""
+    """What each field of the plan holds, END included; None where a piece or an END finds no room."""
     rooms = {"options": length - 240}
     rooms.update({name: FIELDS[name][1] - FIELDS[name][0] for name, bit in (("file", 1), ("sname", 2)) if plan & bit})
     held = {name: b"" for name in rooms}
     if plan:
         held["options"] = bytes((52, 1, plan))
     names = list(rooms)
-    for tag, data in records.items():
-        option = bytes((tag, len(data))) + data
+    for option in (piece for record in records.items() for piece in pieces(*record)):
         while names and len(held[names[0]] + option) >= rooms[names[0]]:
             names.pop(0)  # the next field, and never this one again
         if not names:
@@ -81,9 +88,9 @@ def write(sheet, m, permission):
         raise Refused(15, 0)
     if len(sheet) > 4096:
         raise Refused(16, len(sheet))
-    records = judge(sheet)
+    judged = judge(sheet)
     for plan in PERMITTED[permission]:
-        held = place(records, plan, len(m))
+        held = place(judged, plan, len(m))
         if held:
             written = bytearray(m)
             written[236:240] = (99, 130, 83, 99)
@@ -97,10 +104,9 @@ def write(sheet, m, permission):
 
 
 def back(m):
-    """The records of a message, and the number of its options."""
+    """The records of a message, and the number of its pieces."""
     met = read(m)
-    records = b"".join(bytes((code, 0, len(option.data))) + option.data for code, option in met.items() if code != 52)
-    return records, len(met)
+    return records(join(met)), len(met)
 
 
 def mixed(bytes_):
@@ -120,10 +126,10 @@ def printed(permission, old, sheet):
         plan, m = write(sheet, old, permission)
     except Refused as refusal:
         return "refused {} {}\n".format(*refusal.args) + f"buffer {mixed(old)}\n-\n"
-    records, count = back(m)
+    taken, count = back(m)
     sname, file = (shown if plan & 2 else mixed)(m[44:108]), (shown if plan & 1 else mixed)(m[108:236])
     return (f"plan {plan}\nheader {mixed(m[:44])}\nsname {sname}\nfile {file}\ncookie {shown(m[236:240])}\n"
-            f"options {shown(m[240:])}\nback {'same' if records == sheet else 'differs'}\naccepted {count}\n-\n")
+            f"options {shown(m[240:])}\nback {'same' if taken == sheet else 'differs'}\naccepted {count}\n-\n")
 
 
 def cases(given):

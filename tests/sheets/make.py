@@ -61,6 +61,16 @@ def option(tag, data):
     return f"{tag:02X} {len(bytes.fromhex(data)):02X} {data} "
 
 
+def pieces(tag, data, *lengths):
+    """The same as pieces of these lengths."""
+    given, at, text = bytes.fromhex(data), 0, ""
+    for length in lengths:
+        text += option(tag, given[at:at + length].hex())
+        at += length
+    assert at == len(given)
+    return text
+
+
 def every_permission(reason, length, sheet, *expected):
     """A case for each permission: with one expectation for all of them, or one for each."""
     return [(f"{reason}, permission {p}", p, length, sheet, expected[p % len(expected)]) for p in range(4)]
@@ -229,7 +239,7 @@ PLANS = [
     ("one byte too long for sname by two, file full", 3, 244, FILLS_FILE + "C9 00 1E" + ramp(30) + "CA 00 1E" + ramp(30),
      "refused 11 244"),
 
-    # No going back, no splitting.
+    # No going back, and no splitting but of what is over 255 bytes.
     ("a small record stays behind the large one, in file", 1, 260, TYPE + "C8 00 1E" + ramp(30) + DOMAIN,
      "plan 1 | options 34 01 01 35 01 05 FF zeros 13 | file C8 1E" + ramp(30) + "0F 01 61 FF zeros 92 | accepted 4"),
     ("a small record stays behind the large one, in sname", 2, 260, TYPE + "C8 00 1E" + ramp(30) + DOMAIN,
@@ -315,7 +325,7 @@ FAULTS = [
     ("12 before 10: tag 0 cut", 0, 300, "00 00 05 01", "refused 12 0"),
     ("12 before 10: tag 255 cut", 0, 300, TYPE + "FF 00 01", "refused 12 4"),
     ("12 before 10: tag 52 of 65,535", 0, 300, TYPE + "34 FF FF 01", "refused 12 4"),
-    ("12 before 13: 256, one byte missing", 0, 300, "C8 01 00" + ramp(255), "refused 12 0"),
+    ("12: 256, one byte missing", 0, 300, "C8 01 00" + ramp(255), "refused 12 0"),
     ("12 before 7", 0, 300, TYPE + "35 00 02 05", "refused 12 4"),
     ("12 before 8", 0, 300, MASK + "36 00 05 01 02 03 04", "refused 12 7"),
     ("12 before 9", 0, 300, "0C 00 01 61 35 00 02 09", "refused 12 4"),
@@ -328,24 +338,47 @@ FAULTS = [
     ("10: tag 52 later", 1, 300, TYPE + LEASE + "34 00 01 01", "refused 10 11"),
     ("10: tag 255 later", 0, 300, TYPE + "FF 00 00" + LEASE, "refused 10 4"),
     ("10: tag 52 without data", 0, 300, "34 00 00", "refused 10 0"),
-    ("10 before 13: tag 0", 0, 300, "00 01 00" + ramp(256), "refused 10 0"),
-    ("10 before 13: tag 52", 0, 300, TYPE + "34 01 00" + ramp(256), "refused 10 4"),
-    ("10 before 13: tag 255", 0, 300, "FF 01 00" + ramp(256), "refused 10 0"),
+    ("10: tag 0 of 256 bytes", 0, 300, "00 01 00" + ramp(256), "refused 10 0"),
+    ("10: tag 52 of 256 bytes", 0, 300, TYPE + "34 01 00" + ramp(256), "refused 10 4"),
+    ("10: tag 255 of 256 bytes", 0, 300, "FF 01 00" + ramp(256), "refused 10 0"),
     ("10 before 8: tag 52 of two bytes", 0, 300, "34 00 02 01 01", "refused 10 0"),
     ("10 before 9: tag 52 is 4", 0, 300, "34 00 01 04", "refused 10 0"),
     # 13
-    ("13: 256 bytes", 3, 1472, "C8 01 00" + ramp(256), "refused 13 0"),
-    ("13: 257 bytes", 3, 1472, "C8 01 01" + ramp(257), "refused 13 0"),
-    ("13: 512 bytes, low byte 0", 3, 1472, "C8 02 00" + ramp(512), "refused 13 0"),
+    ("13: 1,025 bytes", 3, 1472, "C8 04 01" + ramp(1025), "refused 13 0"),
+    ("13: 1,026 bytes", 3, 1472, "C8 04 02" + ramp(1026), "refused 13 0"),
+    ("13: 1,280 bytes, low byte 0", 3, 1472, "C8 05 00" + ramp(1280), "refused 13 0"),
+    ("13: 2,048 bytes", 3, 1472, "2B 08 00" + ramp(2048), "refused 13 0"),
     ("13: 4,093 bytes, all of the sheet", 3, 1472, "C8 0F FD" + ramp(4093), "refused 13 0"),
     ("12: 4,094 bytes, one more than the sheet", 3, 1472, "C8 0F FE" + ramp(4093), "refused 12 0"),
-    ("13: later record", 3, 1472, TYPE + "C8 01 00" + ramp(256) + LEASE, "refused 13 4"),
-    ("13: a text of 256 bytes", 3, 1472, TYPE + LEASE + "0C 01 00" + "61" * 256, "refused 13 11"),
-    ("13: 260 bytes, a multiple of 4", 3, 1472, "03 01 04" + "01" * 260, "refused 13 0"),
-    ("13 before 7", 3, 1472, BARE + "FE 01 00" + ramp(256), "refused 13 3"),
-    ("13 before 8", 3, 1472, "01 01 00" + "01" * 256, "refused 13 0"),
-    ("13 before 8, where 8 would see 1", 3, 1472, "13 01 01" + "01" * 257, "refused 13 0"),
-    ("13 before 9", 3, 1472, "21 01 00" + "00" * 256, "refused 13 0"),
+    ("13: later record", 3, 1472, TYPE + "C8 04 01" + ramp(1025) + LEASE, "refused 13 4"),
+    ("13: a text of 1,025 bytes", 3, 1472, TYPE + LEASE + "0C 04 01" + "61" * 1025, "refused 13 11"),
+    ("13: 1,028 bytes, a multiple of 4", 3, 1472, "03 04 04" + "01" * 1028, "refused 13 0"),
+    ("13: a small buffer", 0, 241, "C8 04 01" + ramp(1025), "refused 13 0"),
+    ("12 before 13: 1,025, one byte missing", 3, 1472, "C8 04 01" + ramp(1024), "refused 12 0"),
+    ("10 before 13: tag 0 of 1,025", 0, 300, "00 04 01" + ramp(1025), "refused 10 0"),
+    ("10 before 13: tag 52 of 1,025", 0, 300, TYPE + "34 04 01" + ramp(1025), "refused 10 4"),
+    ("10 before 13: tag 255 of 1,025", 0, 300, "FF 04 01" + ramp(1025), "refused 10 0"),
+    ("13 before 7", 3, 1472, BARE + "FE 04 01" + ramp(1025), "refused 13 3"),
+    ("13 before 8", 3, 1472, "01 04 04" + "01" * 1028, "refused 13 0"),
+    ("13 before 8, where 8 would see 1", 3, 1472, "13 04 01" + "01" * 1025, "refused 13 0"),
+    ("13 before 9", 3, 1472, "21 04 08" + "00" * 1032, "refused 13 0"),
+    # Up to request 02 more than 255 bytes were a 13. Now a record of up to 1,024 is split.
+    ("was 13: 256 bytes", 3, 1472, "C8 01 00" + ramp(256),
+     "plan 0 | options " + pieces(200, ramp(256), 255, 1) + "FF zeros 971 | accepted 2"),
+    ("was 13: 257 bytes", 3, 1472, "C8 01 01" + ramp(257),
+     "plan 0 | options " + pieces(200, ramp(257), 255, 2) + "FF zeros 970 | accepted 2"),
+    ("was 13: 512 bytes, low byte 0", 3, 1472, "C8 02 00" + ramp(512),
+     "plan 0 | options " + pieces(200, ramp(512), 255, 255, 2) + "FF zeros 713 | accepted 3"),
+    ("was 13: later record", 3, 1472, TYPE + "C8 01 00" + ramp(256) + LEASE,
+     "plan 0 | options 35 01 05" + pieces(200, ramp(256), 255, 1) + "33 04 00 00 0E 10 FF | accepted 4"),
+    ("was 13: a text of 256 bytes", 3, 1472, TYPE + LEASE + "0C 01 00" + "61" * 256,
+     "plan 0 | options 35 01 05 33 04 00 00 0E 10" + pieces(12, "61" * 256, 255, 1) + "FF | accepted 4"),
+    ("was 13: 260 bytes, a multiple of 4", 3, 1472, "03 01 04" + "01" * 260,
+     "plan 0 | options " + pieces(3, "01" * 260, 255, 5) + "FF | accepted 2"),
+    ("was 13 before 7, and is 7", 3, 1472, BARE + "FE 01 00" + ramp(256), "refused 7 3"),
+    ("was 13 before 8, and is 8", 3, 1472, "01 01 00" + "01" * 256, "refused 8 0"),
+    ("was 13 before 8, and is 8: its low byte is 1", 3, 1472, "13 01 01" + "01" * 257, "refused 8 0"),
+    ("was 13 before 9, and is 9", 3, 1472, "21 01 00" + "00" * 256, "refused 9 0"),
     # 7
     ("7: at once", 0, 300, TYPE + TYPE, "refused 7 4"),
     ("7: other data", 0, 300, TYPE + "35 00 01 02", "refused 7 4"),
@@ -374,15 +407,22 @@ FAULTS = [
     ("9, then 12", 0, 300, BROKEN + "C8", "refused 9 0"),
     ("8, then 12", 0, 300, "35 00 00 C8 00", "refused 8 0"),
     ("7, then 12", 0, 300, BARE + BARE + "C8 FF FF", "refused 7 3"),
-    ("13, then 12", 3, 1472, "C8 01 00" + ramp(256) + "C9", "refused 13 0"),
+    ("13, then 12", 3, 1472, "C8 04 01" + ramp(1025) + "C9", "refused 13 0"),
+    ("was 13, then 12, and is 12", 3, 1472, "C8 01 00" + ramp(256) + "C9", "refused 12 259"),
     ("10, then 12", 0, 300, "34 00 01 01 35", "refused 10 0"),
     ("9, then 10", 0, 300, BROKEN + "00 00 00", "refused 9 0"),
     ("8, then 10", 0, 300, "01 00 03 01 02 03 FF 00 00", "refused 8 0"),
     ("7, then 10", 0, 300, TYPE + TYPE + "00 00 00", "refused 7 4"),
-    ("13, then 10", 3, 1472, "C8 01 00" + ramp(256) + "00 00 00", "refused 13 0"),
-    ("9, then 13", 3, 1472, "2E 00 01 03 C8 01 00" + ramp(256), "refused 9 0"),
-    ("8, then 13", 3, 1472, TYPE + "3D 00 01 01 C8 01 00" + ramp(256), "refused 8 4"),
-    ("7, then 13", 3, 1472, TYPE + TYPE + "C8 01 00" + ramp(256), "refused 7 4"),
+    ("13, then 10", 3, 1472, "C8 04 01" + ramp(1025) + "00 00 00", "refused 13 0"),
+    ("was 13, then 10, and is 10", 3, 1472, "C8 01 00" + ramp(256) + "00 00 00", "refused 10 259"),
+    ("9, then 13", 3, 1472, "2E 00 01 03 C8 04 01" + ramp(1025), "refused 9 0"),
+    ("8, then 13", 3, 1472, TYPE + "3D 00 01 01 C8 04 01" + ramp(1025), "refused 8 4"),
+    ("7, then 13", 3, 1472, TYPE + TYPE + "C8 04 01" + ramp(1025), "refused 7 4"),
+    ("9, then 256 bytes", 3, 1472, "2E 00 01 03 C8 01 00" + ramp(256), "refused 9 0"),
+    ("8, then 256 bytes", 3, 1472, TYPE + "3D 00 01 01 C8 01 00" + ramp(256), "refused 8 4"),
+    ("7, then 256 bytes", 3, 1472, TYPE + TYPE + "C8 01 00" + ramp(256), "refused 7 4"),
+    ("7: a long record again", 3, 1472, "C8 01 00" + ramp(256) + "C8 01 00" + ramp(256), "refused 7 259"),
+    ("7: a long record, then the same tag with none", 3, 1472, "C8 01 2C" + ramp(300) + "C8 00 00", "refused 7 303"),
     ("9, then 7", 0, 300, TYPE + "2E 00 01 03" + TYPE, "refused 9 4"),
     ("8, then 7", 0, 300, TYPE + "2E 00 00" + TYPE, "refused 8 4"),
     ("9, then 7 of the same tag", 0, 300, BROKEN + TYPE, "refused 9 0"),
@@ -411,7 +451,12 @@ ROUTER_FIRST = [
     ("12 before 14", 0, 300, ROUTER + MASK + "C8", "refused 12 14"),
     ("12 before 14: tag 1 cut", 0, 300, ROUTER + "01 00 04 FF FF FF", "refused 12 7"),
     ("10 before 14", 0, 300, ROUTER + MASK + "34 00 01 01", "refused 10 14"),
-    ("13 before 14", 3, 1472, ROUTER + MASK + "C8 01 00" + ramp(256), "refused 13 14"),
+    ("13 before 14", 3, 1472, ROUTER + MASK + "C8 04 01" + ramp(1025), "refused 13 14"),
+    ("was 13 before 14, and is 14", 3, 1472, ROUTER + MASK + "C8 01 00" + ramp(256), "refused 14 0"),
+    ("14: 3 of 260 bytes", 3, 1472, "03 01 04" + "01" * 260 + MASK, "refused 14 0"),
+    ("14: a long record between them", 3, 1472, TYPE + ROUTER + "C8 01 00" + ramp(256) + MASK, "refused 14 4"),
+    ("1, then 3 of 260 bytes", 3, 1472, MASK + "03 01 04" + "01" * 260,
+     "plan 0 | options 01 04 FF FF FF 00" + pieces(3, "01" * 260, 255, 5) + "FF | accepted 3"),
     ("7 before 14: 3 again", 0, 300, ROUTER + MASK + ROUTER, "refused 7 14"),
     ("7 before 14: 1 again", 0, 300, ROUTER + MASK + MASK, "refused 7 14"),
     ("8 before 14: tag 1 broken", 0, 300, ROUTER + "01 00 03 FF FF FF", "refused 8 7"),
@@ -423,8 +468,9 @@ ROUTER_FIRST = [
     ("14 before 11: with every plan", 3, 241, TYPE + ROUTER + MASK, "refused 14 4"),
     ("11 where 14 is not: 1, then 3, one byte short", 0, 252, MASK + ROUTER, "refused 11 252"),
     *[(f"{number} before 11", 0, 240, sheet, f"refused {number} {place}") for number, place, sheet in (
-        (12, 0, "35"), (10, 0, "34 00 01 01"), (13, 0, "C8 01 00" + ramp(256)), (7, 4, TYPE + TYPE), (8, 0, "35 00 00"),
+        (12, 0, "35"), (10, 0, "34 00 01 01"), (13, 0, "C8 04 01" + ramp(1025)), (7, 4, TYPE + TYPE), (8, 0, "35 00 00"),
         (9, 0, "35 00 01 00"))],
+    ("was 13 before 11, and is 11", 0, 240, "C8 01 00" + ramp(256), "refused 11 240"),
 ]
 
 # 15 records of 258 bytes: 3,870 of a sheet's 4,096.
@@ -436,9 +482,14 @@ SHEETS = [
     ("4,096 bytes, two left over", 3, 1472, LONG + "D7 00 DD" + ramp(221) + "35 00", "refused 12 4094"),
     ("4,096 bytes, the last one byte too long", 3, 1472, LONG + "D7 00 E0" + ramp(223), "refused 12 3870"),
     ("4,096 bytes, tag 0 at the end", 3, 1472, LONG + "D7 00 DC" + ramp(220) + "00 00 00", "refused 10 4093"),
-    # 14 of the records take 3,612
-    ("4,096 bytes, 256 of data at the end", 3, 1472,
-     "".join(record(c, ramp(255)) for c in range(200, 214)) + "D7 00 DE" + ramp(222) + "D8 01 00" + ramp(256), "refused 13 3837"),
+    # 14 of the records take 3,612, 11 of them 2,838
+    ("4,096 bytes, 256 of data at the end: was 13", 3, 1472,
+     "".join(record(c, ramp(255)) for c in range(200, 214)) + "D7 00 DE" + ramp(222) + "D8 01 00" + ramp(256), "refused 11 1472"),
+    ("4,096 bytes, 1,025 of data at the end", 3, 1472,
+     "".join(record(c, ramp(255)) for c in range(200, 211)) + "D7 00 E3" + ramp(227) + "D8 04 01" + ramp(1025), "refused 13 3068"),
+    ("4,096 bytes of four records", 3, 1472, "".join(record(c, ramp(1021)) for c in range(200, 204)), "refused 11 1472"),
+    ("4,097 bytes of four records", 3, 1472, "".join(record(c, ramp(1021)) for c in range(200, 203)) + record(203, ramp(1022)),
+     "refused 16 4097"),
     ("4,096 bytes, met again at the end", 3, 1472, LONG + "C8 00 DF" + ramp(223), "refused 7 3870"),
     ("4,096 bytes, 8 at the end", 3, 1472, LONG + "D7 00 DB" + ramp(219) + "01 00 01 FF", "refused 8 4092"),
     ("4,096 bytes, 9 at the end", 3, 1472, LONG + "D7 00 DB" + ramp(219) + BROKEN, "refused 9 4092"),
@@ -468,6 +519,136 @@ SHEETS = [
     ("15 before 14", 255, 300, ROUTER + MASK, "refused 15 0"),
     ("15 before 11", 4, 240, EMPTY, "refused 15 0"),
     ("2 before 14", 3, 1473, ROUTER + MASK, "refused 2 1473"),
+]
+
+# Records over 255 bytes: pieces of 255 bytes, each 257 as an option, and a last one. Rooms are as with PLANS; a piece of 255 has room in
+# options alone, so that of one record at most the last piece leaves options.
+LONG_RECORDS = [
+    # The smallest buffer of plan 0, by the number of pieces: 241, the data, and 2 for each piece.
+    *[case for length, *lengths in ((256, 255, 1), (257, 255, 2), (258, 255, 3), (300, 255, 45), (509, 255, 254), (510, 255, 255),
+                                    (511, 255, 255, 1), (764, 255, 255, 254), (765, 255, 255, 255), (766, 255, 255, 255, 1),
+                                    (1020, 255, 255, 255, 255), (1021, 255, 255, 255, 255, 1), (1023, 255, 255, 255, 255, 3),
+                                    (1024, 255, 255, 255, 255, 4))
+      for case in every_permission(f"{length} bytes just fit", 241 + length + 2 * len(lengths), record(200, ramp(length)),
+                                   "plan 0 | options " + pieces(200, ramp(length), *lengths) + f"FF zeros 0 | accepted {len(lengths)}")],
+    # One byte less. A last piece of 1 byte takes 3 as an option, as much as 52: nothing is won.
+    *[case for length, room in ((256, 500), (510, 754), (511, 757), (765, 1011), (766, 1014), (1020, 1268), (1021, 1271))
+      for case in every_permission(f"{length} bytes, one byte short", room, record(200, ramp(length)), f"refused 11 {room}")],
+    *every_permission("257 bytes, one byte short", 501, record(200, ramp(257)), "refused 11 501",
+                      "plan 1 | options 34 01 01 C8 FF" + ramp(255) + "FF zeros 0 | file C8 02 00 01 FF zeros 123 | accepted 3",
+                      "plan 2 | options 34 01 02 C8 FF" + ramp(255) + "FF zeros 0 | sname C8 02 00 01 FF zeros 59 | accepted 3",
+                      "plan 1 | options 34 01 01 C8 FF" + ramp(255) + "FF zeros 0 | file C8 02 00 01 FF zeros 123 | accepted 3"),
+    *every_permission("257 bytes, two bytes short", 500, record(200, ramp(257)), "refused 11 500"),
+    *every_permission("1,024 bytes, one byte short", 1274, record(43, ramp(1024)), "refused 11 1274",
+                      "plan 1 | options 34 01 01" + pieces(43, ramp(1020), 255, 255, 255, 255) + "FF zeros 2 | file 2B 04 FD FE FF 00 FF"
+                      " zeros 121 | accepted 6",
+                      "plan 2 | options 34 01 02" + pieces(43, ramp(1020), 255, 255, 255, 255) + "FF zeros 2 | sname 2B 04 FD FE FF 00 FF"
+                      " zeros 57 | accepted 6",
+                      "plan 1 | options 34 01 01" + pieces(43, ramp(1020), 255, 255, 255, 255) + "FF zeros 2 | file 2B 04 FD FE FF 00 FF"
+                      " zeros 121 | accepted 6"),
+    *every_permission("1,024 bytes, no room for the fourth piece", 1271, record(43, ramp(1024)), "refused 11 1271"),
+    *every_permission("1,024 bytes into 1,472", 1472, record(43, ramp(1024)),
+                      "plan 0 | options " + pieces(43, ramp(1024), 255, 255, 255, 255, 4) + "FF zeros 197 | accepted 5"),
+    *every_permission("1,025 bytes into 1,472", 1472, record(43, ramp(1025)), "refused 13 0"),
+
+    # The last piece in file or sname.
+    *every_permission("300 bytes, one byte short", 544, record(43, ramp(300)), "refused 11 544",
+                      "plan 1 | options 34 01 01 2B FF" + ramp(255) + "FF zeros 43 | file 2B 2D 00" + ramp(44) + "FF zeros 80 | accepted 3",
+                      "plan 2 | options 34 01 02 2B FF" + ramp(255) + "FF zeros 43 | sname 2B 2D 00" + ramp(44) + "FF zeros 16 | accepted 3",
+                      "plan 1 | options 34 01 01 2B FF" + ramp(255) + "FF zeros 43 | file 2B 2D 00" + ramp(44) + "FF zeros 80 | accepted 3"),
+    *every_permission("300 bytes, the first piece just fits", 501, record(43, ramp(300)), "refused 11 501",
+                      "plan 1 | options 34 01 01 2B FF" + ramp(255) + "FF zeros 0 | file 2B 2D 00" + ramp(44) + "FF | accepted 3",
+                      "plan 2 | options 34 01 02 2B FF" + ramp(255) + "FF zeros 0 | sname 2B 2D 00" + ramp(44) + "FF | accepted 3",
+                      "plan 1 | options 34 01 01 2B FF" + ramp(255) + "FF zeros 0 | file 2B 2D 00" + ramp(44) + "FF | accepted 3"),
+    *every_permission("300 bytes, the first piece fits nowhere", 500, record(43, ramp(300)), "refused 11 500"),
+    *every_permission("300 bytes: room enough, but in parts", 300, record(43, ramp(300)), "refused 11 300"),
+    *every_permission("the last piece fills file", 501, record(43, ramp(380)), "refused 11 501",
+                      "plan 1 | options 34 01 01 2B FF" + ramp(255) + "FF zeros 0 | file 2B 7D 00" + ramp(124) + "FF zeros 0 | accepted 3",
+                      "refused 11 501",
+                      "plan 1 | options 34 01 01 2B FF" + ramp(255) + "FF zeros 0 | file 2B 7D 00" + ramp(124) + "FF zeros 0 | accepted 3"),
+    *every_permission("the last piece one byte too long for file", 501, record(43, ramp(381)), "refused 11 501"),
+    *every_permission("the last piece fills sname", 501, record(43, ramp(316)), "refused 11 501",
+                      "plan 1 | options 34 01 01 2B FF" + ramp(255) + "FF zeros 0 | file 2B 3D 00" + ramp(60) + "FF zeros 64 | accepted 3",
+                      "plan 2 | options 34 01 02 2B FF" + ramp(255) + "FF zeros 0 | sname 2B 3D 00" + ramp(60) + "FF zeros 0 | accepted 3",
+                      "plan 1 | options 34 01 01 2B FF" + ramp(255) + "FF zeros 0 | file 2B 3D 00" + ramp(60) + "FF zeros 64 | accepted 3"),
+    *every_permission("the last piece one byte too long for sname", 501, record(43, ramp(317)), "refused 11 501",
+                      "plan 1 | options 34 01 01 2B FF" + ramp(255) + "FF zeros 0 | file 2B 3E 00" + ramp(61) + "FF zeros 63 | accepted 3",
+                      "refused 11 501",
+                      "plan 1 | options 34 01 01 2B FF" + ramp(255) + "FF zeros 0 | file 2B 3E 00" + ramp(61) + "FF zeros 63 | accepted 3"),
+    ("the third piece in file", 1, 758, record(43, ramp(555)),
+     "plan 1 | options 34 01 01 2B FF" + ramp(255) + "2B FF 00" + ramp(254) + "FF zeros 0 | file 2B 2D FF 00" + ramp(43) + "FF | accepted 4"),
+    ("the second piece has room nowhere, the third in file", 3, 757, record(43, ramp(555)), "refused 11 757"),
+    ("two full pieces, the second for options alone", 3, 754, record(43, ramp(510)), "refused 11 754"),
+
+    # With other records, before and behind.
+    ("a piece in file, and a record behind it", 1, 510, TYPE + LEASE + record(43, ramp(300)) + NAME,
+     "plan 1 | options 34 01 01 35 01 05 33 04 00 00 0E 10 2B FF" + ramp(255) + "FF zeros 0 | file 2B 2D 00" + ramp(44)
+     + "0C 02 61 62 FF zeros 76 | accepted 6"),
+    ("a small record stays behind the piece in file", 1, 520, record(43, ramp(300)) + TYPE,
+     "plan 1 | options 34 01 01 2B FF" + ramp(255) + "FF zeros 19 | file 2B 2D 00" + ramp(44) + "35 01 05 FF zeros 77 | accepted 4"),
+    ("a piece fills file, a record goes to sname", 3, 501, record(43, ramp(380)) + TYPE,
+     "plan 3 | options 34 01 03 2B FF" + ramp(255) + "FF zeros 0 | file 2B 7D 00" + ramp(124) + "FF zeros 0 | sname 35 01 05 FF zeros 60"
+     " | accepted 4"),
+    ("all three full, a piece in options and one in file", 3, 507, LEASE + record(43, ramp(380)) + FILLS_SNAME,
+     "plan 3 | options 34 01 03 33 04 00 00 0E 10 2B FF" + ramp(255) + "FF zeros 0 | file 2B 7D 00" + ramp(124) + "FF zeros 0 | sname "
+     + FULL_SNAME + " | accepted 5"),
+    ("all three full, less one byte of options", 3, 506, LEASE + record(43, ramp(380)) + FILLS_SNAME, "refused 11 506"),
+    ("a first piece without room behind another record", 3, 511, record(200, ramp(100)) + record(43, ramp(300)),
+     "refused 11 511"),
+    ("the same order with room in options", 3, 603, record(200, ramp(100)) + record(43, ramp(300)),
+     "plan 1 | options 34 01 01 C8 64" + ramp(100) + "2B FF" + ramp(255) + "FF zeros 0 | file 2B 2D 00" + ramp(44) + "FF | accepted 4"),
+    ("long, then short: the short one fits options, and stays behind", 2, 505, record(43, ramp(300)) + "FE 00 00",
+     "plan 2 | options 34 01 02 2B FF" + ramp(255) + "FF zeros 4 | sname 2B 2D 00" + ramp(44) + "FE 00 FF zeros 14 | accepted 4"),
+    ("two long records, the second's last piece in file", 3, 805, record(43, ramp(300)) + record(200, ramp(300)),
+     "plan 1 | options 34 01 01" + pieces(43, ramp(300), 255, 45) + "C8 FF" + ramp(255) + "FF zeros 0 | file C8 2D 00" + ramp(44)
+     + "FF | accepted 5"),
+    ("two long records, one byte less", 3, 804, record(43, ramp(300)) + record(200, ramp(300)), "refused 11 804"),
+    ("two long records just fit", 0, 849, record(43, ramp(300)) + record(200, ramp(300)),
+     "plan 0 | options " + pieces(43, ramp(300), 255, 45) + pieces(200, ramp(300), 255, 45) + "FF zeros 0 | accepted 4"),
+    ("1,472: 1,024 bytes and 195", 0, 1472, record(43, ramp(1024)) + record(200, ramp(195)),
+     "plan 0 | options " + pieces(43, ramp(1024), 255, 255, 255, 255, 4) + "C8 C3" + ramp(195) + "FF zeros 0 | accepted 6"),
+    ("1,472: 1,024 bytes and 196", 0, 1472, record(43, ramp(1024)) + record(200, ramp(196)), "refused 11 1472"),
+    ("1,472: every byte of all fields", 3, 1472, record(43, ramp(1024)) + record(202, ramp(192)) + FILLS_FILE + FILLS_SNAME,
+     "plan 3 | options 34 01 03" + pieces(43, ramp(1024), 255, 255, 255, 255, 4) + "CA C0" + ramp(192) + "FF zeros 0 | file " + FULL_FILE
+     + " | sname " + FULL_SNAME + " | accepted 9"),
+    ("1,472: two of 511 bytes and one of 130", 3, 1472, record(43, ramp(511)) + record(200, ramp(511)) + record(201, ramp(130)),
+     "plan 0 | options " + pieces(43, ramp(511), 255, 255, 1) + pieces(200, ramp(511), 255, 255, 1) + "C9 82" + ramp(130)
+     + "FF zeros 65 | accepted 7"),
+
+    # All data bytes are written in order, and come back.
+    ("a text of 300 bytes, the last 50 zeros", 0, 545, record(12, "61" * 250 + "00" * 50),
+     "plan 0 | options 0C FF" + "61" * 250 + "00" * 5 + "0C 2D" + "00" * 45 + "FF zeros 0 | accepted 2"),
+    ("a text of 300 zeros, in file", 1, 501, record(12, "00" * 300),
+     "plan 1 | options 34 01 01 0C FF" + "00" * 255 + "FF zeros 0 | file 0C 2D" + "00" * 45 + "FF zeros 80 | accepted 3"),
+    ("300 of 255", 0, 545, record(200, "FF" * 300), "plan 0 | options C8 FF" + "FF" * 255 + "C8 2D" + "FF" * 45 + "FF zeros 0 | accepted 2"),
+    ("data that looks like 52, in the second piece", 1, 501, record(43, ramp(255) + "34 01 02 FF"),
+     "plan 1 | options 34 01 01 2B FF" + ramp(255) + "FF zeros 0 | file 2B 04 34 01 02 FF FF zeros 121 | accepted 3"),
+
+    # Kinds judge the whole record.
+    ("65 addresses", 0, 505, record(3, "01020304" * 65), "plan 0 | options " + pieces(3, "01020304" * 65, 255, 5) + "FF zeros 0 | accepted 2"),
+    ("256 addresses", 0, 1275, record(6, "01020304" * 256),
+     "plan 0 | options " + pieces(6, "01020304" * 256, 255, 255, 255, 255, 4) + "FF zeros 0 | accepted 5"),
+    ("258 bytes of addresses", 3, 1472, record(3, ramp(258)), "refused 8 0"),
+    ("260 bytes of one address", 3, 1472, record(1, ramp(260)), "refused 8 0"),
+    ("256 bytes of a message type", 3, 1472, TYPE.replace("35", "C8") + record(53, "01" * 256), "refused 8 4"),
+    ("33 pairs", 0, 509, record(33, "CB0071070A4D0001" * 33),
+     "plan 0 | options " + pieces(33, "CB0071070A4D0001" * 33, 255, 9) + "FF zeros 0 | accepted 2"),
+    ("33 pairs, the last destination zero", 3, 1472, record(33, "CB0071070A4D0001" * 32 + "000000000A4D0001"), "refused 9 0"),
+    ("33 pairs, a destination zero where it is cut", 3, 1472, record(33, "CB0071070A4D0001" * 31 + "00" * 8 + "CB0071070A4D0001"), "refused 9 0"),
+    ("260 bytes of pairs", 3, 1472, record(33, "CB007107" * 65), "refused 8 0"),
+    ("33 pairs of zeros, 21", 0, 509, record(21, "00" * 264), "plan 0 | options " + pieces(21, "00" * 264, 255, 9) + "FF zeros 0 | accepted 2"),
+    ("25: 129 numbers", 0, 503, record(25, "0044" * 128 + "0045"),
+     "plan 0 | options " + pieces(25, "0044" * 128 + "0045", 255, 3) + "FF zeros 0 | accepted 2"),
+    ("25: the last of 129 falls", 3, 1472, record(25, "0045" * 128 + "0044"), "refused 9 0"),
+    ("25: the number that is cut falls", 3, 1472, record(25, "0145" * 127 + "0144" + "0145"), "refused 9 0"),
+    ("25: 257 bytes", 3, 1472, record(25, "44" * 257), "refused 8 0"),
+    ("61 of 256 bytes", 0, 501, record(61, ramp(256)), "plan 0 | options " + pieces(61, ramp(256), 255, 1) + "FF zeros 0 | accepted 2"),
+    ("68 of 256 bytes", 0, 501, record(68, ramp(256)), "plan 0 | options " + pieces(68, ramp(256), 255, 1) + "FF zeros 0 | accepted 2"),
+    ("8 at a long record behind others", 3, 1472, TYPE + LEASE + record(42, ramp(270)), "refused 8 11"),
+    ("9 behind a long record", 3, 1472, record(43, ramp(300)) + BROKEN, "refused 9 303"),
+    ("12 behind a long record", 3, 1472, record(43, ramp(300)) + "C8 00", "refused 12 303"),
+    ("12: 256, none there", 3, 1472, "2B 01 00", "refused 12 0"),
+    ("12: 1,024, one byte missing", 3, 1472, "2B 04 00" + ramp(1023), "refused 12 0"),
 ]
 
 # The shortest right data for each code that has a row; in code order, so that 1 stands before 3.
@@ -554,7 +735,7 @@ def kind_cases():
 
 
 def main():
-    hand = OWN_CASES + LENGTHS + PERMISSIONS + PLANS + CONTENT + FAULTS + ROUTER_FIRST + SHEETS + MANY
+    hand = OWN_CASES + LENGTHS + PERMISSIONS + PLANS + CONTENT + FAULTS + ROUTER_FIRST + SHEETS + LONG_RECORDS + MANY
     cases = hand + kind_cases()
     given, printed = b"", []
     for reason, permission, length, text, expected, *first in cases:

@@ -1,5 +1,5 @@
 #!/usr/bin/env python3
-"""Read crates/vectors/stdin by document 01 and request 01 anew, and hold every line of crates/vectors/stdout to it."""
+"""Read crates/vectors/stdin by document 01 and requests 01 and 02 anew, and hold every line of crates/vectors/stdout to it."""
 
 import struct
 import sys
@@ -7,7 +7,7 @@ from pathlib import Path
 
 HERE = Path(__file__).resolve().parent
 sys.path.append(str(HERE.parent))
-from reader import Refused, read, row_of
+from reader import Refused, join, read, records, row_of
 
 OUT = HERE.parent.parent / "crates" / "vectors"
 
@@ -34,8 +34,16 @@ def content(known, code, at, data):
 
 
 def look_up(known, code, option):
-    field, offset, at, start, data = option
-    return f"{content(known, code, at, data)} {field} {offset} {start}"
+    first = option.first
+    answer = f"{content(known, code, first.at, option.data)} {first.field} {first.offset} {first.start}"
+    return answer if option.pieces == 1 else f"{answer} several {len(option.data)}"
+
+
+def mixed(bytes_):
+    total = 0
+    for byte in bytes_:
+        total = (total * 31 + byte) % 1000003
+    return f"{len(bytes_)} {total}"
 
 
 def printed(m):
@@ -43,23 +51,20 @@ def printed(m):
         met = read(m)
     except Refused as fault:
         return "refused {} {}\n-\n".format(*fault.args)
+    options = join(met)
     out = f"accepted {len(met)}\n"
-    for code, option in met.items():
-        out += f"{code} {option.start} {len(option.data)} {option.field}\n"
-    marks = sum(1 << code for code in met)
+    for piece in met:
+        out += f"{piece.code} {piece.start} {len(piece.data)} {piece.field}\n"
+    marks = sum(1 << code for code in options)
     words = struct.unpack("<4Q", marks.to_bytes(32, "little"))
-    lowest = next((code for code in range(1, 255) if code in met), 0)
+    lowest = next((code for code in range(1, 255) if code in options), 0)
     out += "present {} {} {} {} count {} lowest {}\n".format(*words, bin(marks).count("1"), lowest)
-    for code, option in met.items():
-        out += f"{code} {look_up(EVERY, code, option)}\n"
-    sheet = bytearray()
-    for code, option in met.items():
-        if code != 52:
-            sheet += struct.pack(">BH", code, len(option.data)) + option.data
-    total = 0
-    for byte in sheet:
-        total = (total * 31 + byte) % 1000003
-    return out + f"records {len(sheet)} {total}\n-\n"
+    for piece in met:
+        option = options[piece.code]
+        out += f"{piece.code} {look_up(EVERY, piece.code, option)}\n"
+        if option.pieces > 1:
+            out += f"copy {piece.code} {mixed(option.data)}\n"
+    return out + f"records {mixed(records(options))}\n-\n"
 
 
 # --- The lines after the cases ------------------------------------------------------------------------------------------
@@ -75,10 +80,10 @@ def answer(m, known, code):
     if code in (0, 255):
         return "refused 10 0"
     try:
-        met = read(m)
+        options = join(read(m))
     except Refused as fault:
         return "refused {} {}".format(*fault.args)
-    return look_up(known, code, met[code]) if code in met else "absent"
+    return look_up(known, code, options[code]) if code in options else "absent"
 
 
 def data(m, code):
@@ -92,7 +97,7 @@ def text(m, known, code):
 
 def part(m, answer, wanted):
     words = answer.split()
-    if words[0] != wanted or words[1] == "0":
+    if words[0] != wanted or words[1] == "0" or "several" in words:
         return "0 0"
     start, length = int(words[4]), int(words[1])
     return " ".join(str(n) for n in (start, length, *m[start:start + length]))

@@ -8,7 +8,7 @@ use Rattle.options.specs.Kinds.{addressesOf}
 use Rattle.options.specs.Answers.{AddressStep, next, done, stepIn, addressStep}
 use Rattle.address.specs.declared.AddressReader.{AddressReader}
 use Rattle.address.specs.declared.Stepped.{Stepped}
-use Rattle.address.specs.Walk.{cursorOf, steppedBy, stepOf, Gives, no-more, one-more, ReaderGivesTheAddresses, CursorKeepsTheStep}
+use Rattle.address.specs.Walk.{cursorOf, steppedBy, stepOf, Gives, no-more, one-more, ReaderGivesTheAddresses, CursorKeepsTheStep, DoneGivesNothing}
 
 abbrev after : AddressReader → AddressStep → Stepped
 after r x = steppedBy r (cursorOf (r .at) x)
@@ -36,3 +36,6 @@ reader-gives-the-addresses r = from r (drop (r .at) (r .list .now)) refl
 pub cursor-keeps-the-step : CursorKeepsTheStep
 cursor-keeps-the-step at (next a k) = refl
 cursor-keeps-the-step at done = refl
+
+pub done-gives-nothing : DoneGivesNothing
+done-gives-nothing at = (refl, refl)

@@ -43,3 +43,7 @@ stepFrom c = cond (c .given) (next (c .address) (c .next)) done
 -- a cursor loses nothing of the step
 abbrev pub CursorKeepsTheStep : Type 0
 CursorKeepsTheStep = (at : ℕ) (s : AddressStep) → stepFrom (cursorOf at s) ≡ s
+
+-- done gives no address and leaves the place as it was
+abbrev pub DoneGivesNothing : Type 0
+DoneGivesNothing = (at : ℕ) → (cursorOf at done .address ≡ 0) × (cursorOf at done .next ≡ at)

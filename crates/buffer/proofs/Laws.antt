@@ -1,44 +1,30 @@
 -- What stores and copies leave of a buffer. Assumes nothing.
 use mathlib.Core.Path.{_≡_, sym, ap, ap₂, _∙_}
-use mathlib.Core.List.{List, _++_, append-assoc, append-nil}
-use Prim.Native.Nat.{ℕ, zero, suc, _+_, _-_, _≤_, _<_}
-use native.Mathlib.Nat.{add-zero}
+use mathlib.Core.List.{List, [], _∷_, _++_, append-assoc, append-nil}
+use Prim.Native.Nat.{ℕ, suc, _+_, _-_, _≤_, _<_}
+use native.Mathlib.Numerals.{add-one}
 use native.Mathlib.Omega.{arith}
-use lib.ListN.{length, getD, take, drop, set, length-drop, drop-of-length-le}
-use lib.Seq.{paste, paste-zero, paste-suc, getD-drop, length-take-le, take-append-le, take-take, take-add, take-length, take-all, drop-append-add, drop-drop}
+use lib.ListN.{length, getD, take, drop, set, drop-of-length-le}
+use lib.Seq.{length-take-le, set-split, take-suc, take-at, take-append-le, take-take, take-add, take-length, drop-append-add, drop-drop}
 use borrow.Rule.Slice.PartMut.{putMid, midOf, post-is}
 use Rattle.buffer.specs.Copy.{whole}
 
--- dst with n bytes of src stored one after another, each at its own place, from `at` on
-abbrev pub stored : List ℕ → List ℕ → ℕ → ℕ → List ℕ
-stored dst src at zero = dst
-stored dst src at (suc n) = set (stored dst src at n) (at + n) (getD src (at + n) 0)
+-- a buffer that is as long as src has src alone
+pub whole-full : (dst src : List ℕ) → length dst ≡ length src → whole dst src ≡ src
+whole-full dst src h = ap (λ (p : List ℕ). src ++ p) (drop-of-length-le dst {i = length src} (omega (arith, h))) ∙ append-nil src
 
-pub stored-is : (dst src : List ℕ) → length src ≤ length dst → (at n : ℕ) → at + n ≤ length src → stored dst src at n ≡ paste dst at (drop at src) n
-stored-is dst src h at zero l = paste-zero dst at (drop at src)
-stored-is dst src h at (suc n) l =
-    ap₂ (λ (x : List ℕ) (b : ℕ). set x (at + n) b) (stored-is dst src h at n (omega arith)) (sym (getD-drop at src n 0))
-    ∙ paste-suc dst at (drop at src) n 0 (omega arith) (omega (arith, length-drop at src))
-
--- all of src, in a dst that is as long
-pub stored-all : (dst src : List ℕ) (n : ℕ) → length dst ≡ n → length src ≡ n → stored dst src 0 n ≡ src
-stored-all dst src n d s =
-    let z : 0 + n ≡ n = omega arith in
-    stored-is dst src (omega (arith, d, s)) 0 n (omega (arith, s))
-    ∙ ap₂ (λ (p q : List ℕ). p ++ q) (take-all n src (omega (arith, s))) (ap (λ (k : ℕ). drop k dst) z ∙ drop-of-length-le dst {i = n} (omega (arith, d)))
-    ∙ append-nil src
+-- src, read from the start of a buffer that it was copied to
+pub read-back : (old src x : List ℕ) → x ≡ whole old src → midOf 0 (length src - 0) x ≡ src
+read-back old src x e =
+    let z : length src ≡ length src - 0 = omega arith in
+    ap (take (length src - 0)) e ∙ take-at src (drop (length src) old) (length src - 0) z
 
 -- dst with the first n bytes of src at its start
 abbrev pub front : ℕ → List ℕ → List ℕ → List ℕ
 front n dst src = take n src ++ drop n dst
 
 module _ (dst src : List ℕ) where
-  -- n bytes of src at their place in x, which has src's bytes before them and dst's after them
-  pub front-is : (x : List ℕ) (at n : ℕ) → take at x ≡ take at src → drop (at + n) x ≡ drop (at + n) dst → paste x at (drop at src) n ≡ front (at + n) dst src
-  front-is x at n b a =
-      ap₂ (λ (p q : List ℕ). (p ++ take n (drop at src)) ++ q) b a ∙ ap (λ (p : List ℕ). p ++ drop (at + n) dst) (sym (take-add at n src))
-
-  -- the same, where a part of x was lent and came back with them
+  -- a part of x was lent and came back with src's bytes at their place; before it x has src's bytes, and after it dst's
   pub front-part : (x ys : List ℕ) (at e : ℕ) → at ≤ e → take at x ≡ take at src → drop e x ≡ drop e dst → ys ≡ midOf at (e - at) src → putMid at (e - at) x ys ≡ front e dst src
   front-part x ys at e l b a y =
       let k : at + (e - at) ≡ e = omega arith in
@@ -62,5 +48,8 @@ module _ (dst src : List ℕ) where
   -- one byte more
   pub front-byte : (x : List ℕ) (n : ℕ) → x ≡ front n dst src → n < length src → length src ≤ length x → set x n (getD src n 0) ≡ front (n + 1) dst src
   front-byte x n e l h =
-      let s : set x n (getD src n 0) ≡ paste x n (drop n src) 1 = rw add-zero at (stored-is x src h n 1 (omega arith)) in
-      s ∙ front-is x n 1 (ap (take n) e ∙ front-before n (omega arith) n (omega arith)) (ap (drop (n + 1)) e ∙ front-after n (omega arith) (n + 1) (omega arith))
+      rw add-one
+      (set-split x n (getD src n 0) (omega arith)
+      ∙ ap₂ (λ (p q : List ℕ). p ++ (getD src n 0 ∷ q)) (ap (take n) e ∙ front-before n (omega arith) n (omega arith)) (ap (drop (suc n)) e ∙ front-after n (omega arith) (suc n) (omega arith))
+      ∙ sym (append-assoc (take n src) (getD src n 0 ∷ []) (drop (suc n) dst))
+      ∙ ap (λ (p : List ℕ). p ++ drop (suc n) dst) (sym (take-suc src n 0 l)))

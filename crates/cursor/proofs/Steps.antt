@@ -17,7 +17,7 @@ use Rattle.message.specs.declared.Field as coded
 use Rattle.message.specs.Fields.{fieldOf, codedField}
 use Rattle.message.specs.Active.{activeIn, optionsIn, fieldFrom, laterFields, optionsFrom}
 use Rattle.message.proofs.Names.{field-there}
-use Rattle.message.proofs.Split.{options-all}
+use Rattle.message.proofs.Callers.{options-all}
 use Rattle.cursor.specs.declared.Position.{Position}
 use Rattle.cursor.specs.declared.Step.the-variants.{Item, Done}
 use Rattle.cursor.specs.Cursor.{firstPosition, after, left, stepOf, Steps, no-more, one-more, StepsGiveTheOptions}

@@ -6,19 +6,20 @@ use Prim.Native.Nat.{ℕ, _+_, _-_}
 use native.Mathlib.Omega.{arith}
 use lib.Dec.{eqb}
 use lib.IntN.{ℤ}
-use Rattle.options.specs.Message.{start}
+use Rattle.options.specs.Message.{start, Opt}
 use Rattle.options.specs.Kinds.{kinds}
 use Rattle.options.specs.Answers as asked
 use Rattle.options.specs.ReadingClaims.{Shows}
 use Rattle.theorems.proofs.Fields.{option-in}
 use Rattle.theorems.proofs.Lookup.{shows-what-stands}
+use Rattle.theorems.proofs.Pieces.{first-stands}
 use Rattle.theorems.proofs.Lengths.{field-le, message-short}
 use Rattle.options.specs.Answers.{AddressStep, next, done}
 use Rattle.address.specs.Walk.{cursorOf}
 use Rattle.address.specs.declared.Cursor.{Cursor}
 use Rattle.dhcpopt_reader.specs.declared.PlainAddress.{PlainAddress}
 use Rattle.dhcpopt_reader.specs.declared.PlainContent.{PlainContent}
-use Rattle.dhcpopt_reader.specs.Plain.{fieldNumber, plainFound, Near, plainAddress}
+use Rattle.dhcpopt_reader.specs.Plain.{fieldNumber, plainWhole, plainSeveral, plainFound, Near, plainAddress}
 
 clash {ℓ} : {X : Type ℓ} → _≡_ {A = ℕ} 0 1 → X
 clash e = absurd (omega arith)
@@ -34,8 +35,8 @@ address-done at done c e g = ap (λ (x : Cursor). record { given = 0; address = 
 -- ---- The lookup's answer
 
 -- an origin and a content, number by number
-pub found-is : (g : asked.Origin) (x y : PlainContent) (f b p : ℕ) (z : ℤ) → x ≡ y → f ≡ fieldNumber (g .field) → b ≡ start (g .field) → p ≡ cond (eqb (x .status) 5) (b + g .offset + 2 - 2) 0
-    → z ≡ x .number
+pub found-is : (g : asked.Origin) (x y : PlainContent) (f b p n k : ℕ) (z : ℤ) → x ≡ y → f ≡ fieldNumber (g .field) → b ≡ start (g .field) → p ≡ cond (eqb (x .status) 5) (b + g .offset + 2 - 2) 0
+    → z ≡ x .number → n ≡ plainWhole (g .wholeness) → k ≡ plainSeveral (g .wholeness)
     → record {
       status = x .status;
       kind = x .kind;
@@ -46,11 +47,13 @@ pub found-is : (g : asked.Origin) (x y : PlainContent) (f b p : ℕ) (z : ℤ) �
       offset = g .offset;
       start = b + g .offset + 2;
       length = x .length;
+      whole = n;
+      several = k;
     }
     ≡ plainFound g y
-found-is g x y f b p z xy ff bb pp zz =
+found-is g x y f b p n k z xy ff bb pp zz nn kk =
     let e : start (g .field) + g .offset + 2 - 2 ≡ start (g .field) + g .offset = omega arith in
-    rw (zz, pp, ff, bb, e) (ap (plainFound g) xy)
+    rw (zz, pp, ff, bb, nn, kk, e) (ap (plainFound g) xy)
 
 -- the lookup's origin is near
 lookup-near : (set : ℕ → Bool) (m : List ℕ) (c : ℕ) (a : asked.Answer) → asked.lookup kinds set m c ≡ a → Near a
@@ -58,7 +61,8 @@ lookup-near set m c asked.Absent e = tt
 lookup-near set m c (asked.Refused n p) e = tt
 lookup-near set m c (asked.Found g x) e =
     let s : Shows kinds set m c g x = shows-what-stands kinds set m c g x .0 e in
-    omega (arith, s .offset-is, option-in (s .held .stands .option), field-le (s .held .field) m, message-short m (s .is-accepted))
+    let o : Opt = s .first in
+    omega (arith, s .origin-is .offset-is, option-in (first-stands (s .are-pieces) .stands .option), field-le (o .field) m, message-short m (s .is-accepted))
 
 pub answer-near : (set : ℕ → Bool) (m : List ℕ) (c : ℕ) (a : asked.Answer) → a ≡ asked.lookup kinds set m c → Near a
 answer-near set m c a e = lookup-near set m c a (sym e)

@@ -2,13 +2,14 @@
 use mathlib.Core.Path.{_≡_}
 use mathlib.Core.List.{List}
 use mathlib.Core.Bool.{cond}
+use mathlib.Core.Option.{Option, none, some, Option·map}
 use Prim.Native.Nat.{ℕ, _+_, _≤_}
 use lib.Dec.{eqb}
 use lib.IntN.{ℤ, pos}
 use Rattle.options.specs.Message.{Field, options, file, sname, start}
-use Rattle.options.specs.Kinds.{broken, number, part}
+use Rattle.options.specs.Kinds.{Kind, broken, number, part}
 use Rattle.options.specs.Answers as asked
-use Rattle.kinds.specs.Numbers.{numberOf, kindAt}
+use Rattle.kinds.specs.Numbers.{numberOf, kindFrom}
 use Rattle.present.specs.Marked.{numberOf as refusalOf, placeOf, verdictFrom}
 use Rattle.dhcpopt_reader.specs.declared.PlainAnswer.{PlainAnswer}
 use Rattle.dhcpopt_reader.specs.declared.PlainContent.{PlainContent}
@@ -38,6 +39,15 @@ fieldNumber options = 1
 fieldNumber file = 2
 fieldNumber sname = 3
 
+-- "where there are several pieces the answer also says so, with the whole joined length" (request 02)
+abbrev pub plainWhole : asked.Wholeness → ℕ
+plainWhole asked.inOne = 0
+plainWhole (asked.inPieces n) = n
+
+abbrev pub plainSeveral : asked.Wholeness → ℕ
+plainSeveral asked.inOne = 0
+plainSeveral (asked.inPieces n) = 1
+
 -- an answer with its origin; of what is broken the place is its code byte's
 abbrev pub plainFound : asked.Origin → PlainContent → PlainAnswer
 plainFound g x =
@@ -51,12 +61,14 @@ plainFound g x =
       offset = g .offset;
       start = asked.startOf g;
       length = x .length;
+      whole = plainWhole (g .wholeness);
+      several = plainSeveral (g .wholeness);
     }
 
 -- status 0 absent, 2 refused
 abbrev pub plainRefusal : ℕ → ℕ → ℕ → PlainAnswer
 plainRefusal status n p =
-    record { status = status; kind = 0; refusal = n; field = 0; number = pos 0; place = p; offset = 0; start = 0; length = 0 }
+    record { status = status; kind = 0; refusal = n; field = 0; number = pos 0; place = p; offset = 0; start = 0; length = 0; whole = 0; several = 0 }
 
 abbrev pub plainAnswer : asked.Answer → PlainAnswer
 plainAnswer asked.Absent = plainRefusal 0 0 0
@@ -88,28 +100,39 @@ abbrev pub plainFilled : asked.Given → PlainFilled
 plainFilled (asked.given n) = record { refusal = 0; size = n; place = 0 }
 plainFilled (asked.declined n p) = record { refusal = n; size = 0; place = p }
 
--- ---- Nothing is lost: from what C gets, the answer can be had back
+-- ---- Nothing is lost: from what C gets, the answer can be had back. A number that stands for nothing gives none.
 
 -- the field with a number
-abbrev pub fieldAt : ℕ → Field
-fieldAt n = cond (eqb n 1) options (cond (eqb n 2) file sname)
+abbrev pub fieldAt : ℕ → Option Field
+fieldAt n = cond (eqb n 1) (some options) (cond (eqb n 2) (some file) (cond (eqb n 3) (some sname) none))
 
-abbrev pub originFrom : PlainAnswer → asked.Origin
-originFrom a = record { field = fieldAt (a .field); offset = a .offset }
+-- in one piece, or in several
+abbrev pub wholenessFrom : PlainAnswer → Option asked.Wholeness
+wholenessFrom a = cond (eqb (a .several) 0) (some asked.inOne) (cond (eqb (a .several) 1) (some (asked.inPieces (a .whole))) none)
 
-abbrev pub contentFrom : PlainAnswer → asked.Content
+-- both of two, or none
+abbrev pub both : {A B C : Type 0} → (A → B → C) → Option A → Option B → Option C
+both f none y = none
+both f (some x) none = none
+both f (some x) (some y) = some (f x y)
+
+abbrev pub originFrom : PlainAnswer → Option asked.Origin
+originFrom a = both (λ (fd : Field) (w : asked.Wholeness). record { field = fd; offset = a .offset; wholeness = w }) (fieldAt (a .field)) (wholenessFrom a)
+
+abbrev pub contentFrom : PlainAnswer → Option asked.Content
 contentFrom a =
-    cond (eqb (a .status) 1) (asked.unknown (a .length))
-    (cond (eqb (a .status) 3) (asked.known (number (kindAt (a .kind)) (a .number)))
-    (cond (eqb (a .status) 4) (asked.known (part (kindAt (a .kind)) (a .length))) (asked.known (broken (a .refusal)))))
+    cond (eqb (a .status) 1) (some (asked.unknown (a .length)))
+    (cond (eqb (a .status) 3) (Option·map (λ (k : Kind). asked.known (number k (a .number))) (kindFrom (a .kind)))
+    (cond (eqb (a .status) 4) (Option·map (λ (k : Kind). asked.known (part k (a .length))) (kindFrom (a .kind)))
+    (cond (eqb (a .status) 5) (some (asked.known (broken (a .refusal)))) none)))
 
-abbrev pub answerFrom : PlainAnswer → asked.Answer
+abbrev pub answerFrom : PlainAnswer → Option asked.Answer
 answerFrom a =
-    cond (eqb (a .status) 0) asked.Absent
-    (cond (eqb (a .status) 2) (asked.Refused (a .refusal) (a .place)) (asked.Found (originFrom a) (contentFrom a)))
+    cond (eqb (a .status) 0) (some asked.Absent)
+    (cond (eqb (a .status) 2) (some (asked.Refused (a .refusal) (a .place))) (both asked.Found (originFrom a) (contentFrom a)))
 
 abbrev pub AnswerKept : Type 0
-AnswerKept = (a : asked.Answer) → answerFrom (plainAnswer a) ≡ a
+AnswerKept = (a : asked.Answer) → answerFrom (plainAnswer a) ≡ some a
 
 -- "Start always equals the field's first byte plus offset plus two, at length 0 too" (request 01), and what is broken has the place of its code byte
 pub record PlacesTold (g : asked.Origin) (x : asked.Content) : Type 0 where
@@ -125,15 +148,20 @@ extentFrom e = record { start = e .start; size = e .length }
 abbrev pub ExtentKept : Type 0
 ExtentKept = (e : asked.Extent) → extentFrom (plainExtent e) ≡ e
 
-abbrev pub stepFrom : PlainAddress → asked.AddressStep
-stepFrom a = cond (eqb (a .given) 1) (asked.next (a .address) (a .next)) asked.done
+abbrev pub stepFrom : PlainAddress → Option asked.AddressStep
+stepFrom a = cond (eqb (a .given) 1) (some (asked.next (a .address) (a .next))) (cond (eqb (a .given) 0) (some asked.done) none)
 
 abbrev pub AddressKept : Type 0
-AddressKept = (at : ℕ) (s : asked.AddressStep) → stepFrom (plainAddress at s) ≡ s
+AddressKept = (at : ℕ) (s : asked.AddressStep) → stepFrom (plainAddress at s) ≡ some s
 
--- after the last address the place stays
+-- after the last address none is given, the address is 0, and the place stays
+pub record StaysDone (at : ℕ) (a : PlainAddress) : Type 0 where
+  pub none-given : a .given ≡ 0
+  pub no-address : a .address ≡ 0
+  pub same-place : a .next ≡ at
+
 abbrev pub DoneStays : Type 0
-DoneStays = (at : ℕ) → plainAddress at asked.done .next ≡ at
+DoneStays = (at : ℕ) → StaysDone at (plainAddress at asked.done)
 
 abbrev pub presentFrom : PlainCodes → asked.Present
 presentFrom c = record { verdict = verdictFrom (c .refusal) (c .place); words = c .words; count = c .count; lowest = c .lowest }
@@ -149,7 +177,10 @@ givenFrom f = cond (eqb (f .refusal) 0) (asked.given (f .size)) (asked.declined 
 abbrev pub FilledKept : Type 0
 FilledKept = (m old : List ℕ) → givenFrom (plainFilled (asked.records m old .answer)) ≡ asked.records m old .answer
 
--- refusal and place are those of a refusal or of what is broken, and 0 and 0 elsewhere; an answer from no option has field, offset and start 0
+abbrev pub CopyKept : Type 0
+CopyKept = (m : List ℕ) (c : ℕ) (old : List ℕ) → givenFrom (plainFilled (asked.copy m c old .answer)) ≡ asked.copy m c old .answer
+
+-- refusal and place are those of a refusal or of what is broken, and 0 and 0 elsewhere
 pub record VerdictTold (a : asked.Answer) : Type 0 where
   pub refusal-told : plainAnswer a .refusal ≡ refusalOf (asked.verdictOf a)
   pub place-told : plainAnswer a .place ≡ placeOf (asked.verdictOf a)
@@ -157,17 +188,24 @@ pub record VerdictTold (a : asked.Answer) : Type 0 where
 abbrev pub VerdictKept : Type 0
 VerdictKept = (a : asked.Answer) → VerdictTold a
 
-abbrev pub FromNoOption : asked.Answer → Type 0
-FromNoOption a = (plainAnswer a .field ≡ 0) × (plainAnswer a .offset ≡ 0) × (plainAnswer a .start ≡ 0)
+-- an answer from no option has field, offset and start 0, and tells of no pieces
+pub record FromNoOption (a : asked.Answer) : Type 0 where
+  pub no-field : plainAnswer a .field ≡ 0
+  pub no-offset : plainAnswer a .offset ≡ 0
+  pub no-start : plainAnswer a .start ≡ 0
+  pub no-whole : plainAnswer a .whole ≡ 0
+  pub no-several : plainAnswer a .several ≡ 0
 
 abbrev pub NoOriginTold : Type 0
 NoOriginTold = FromNoOption asked.Absent × ((n p : ℕ) → FromNoOption (asked.Refused n p))
 
--- "a member that an answer does not need is 0", by its status: kind where it is 3 or 4, number where it is 3, length where it is 1 or 4
+-- "a member that an answer does not need is 0", by its status: kind where it is 3 or 4, number where it is 3, length where it is 1 or 4; whole where
+-- several is 1, which else is 0
 pub record NeedlessIsZero (a : PlainAnswer) : Type 0 where
   pub no-kind : (a .status ≡ 3 → ⊥) → (a .status ≡ 4 → ⊥) → a .kind ≡ 0
   pub no-number : (a .status ≡ 3 → ⊥) → a .number ≡ pos 0
   pub no-length : (a .status ≡ 1 → ⊥) → (a .status ≡ 4 → ⊥) → a .length ≡ 0
+  pub one-or-several : (a .several ≡ 1 → ⊥) → (a .several ≡ 0) × (a .whole ≡ 0)
 
 abbrev pub NeedlessMembers : Type 0
 NeedlessMembers = (a : asked.Answer) → NeedlessIsZero (plainAnswer a)

@@ -9,20 +9,21 @@ ghost use Rattle.options.specs.Kinds.{kinds};
 ghost use Rattle.options.specs.CodeSet.{marked};
 ghost use Rattle.options.specs.Answers.{lookup, dataOf, textOf, addressStep, present};
 ghost use Rattle.message.specs.Fields.{fieldOf};
-ghost use Rattle.message.specs.Origins.{originOf};
-ghost use Rattle.lookup.specs.Shown.{contentOf, answerOf, extentOf};
-ghost use Rattle.dhcpopt_reader.specs.Plain.{plainNumber, plainPart, plainContent, fieldNumber, plainFound, plainRefusal, plainAnswer, Near, plainExtent, plainAddress, plainCodes, plainFilled};
+ghost use Rattle.lookup.specs.Shown.{contentOf, wholenessOf, originOf, answerOf, extentOf};
+ghost use Rattle.dhcpopt_reader.specs.Plain.{plainNumber, plainPart, plainContent, fieldNumber, plainWhole, plainSeveral, plainFound, plainRefusal, plainAnswer, Near, plainExtent, plainAddress, plainCodes, plainFilled};
 ghost use Rattle.options.specs.Answers as answers;
-ghost use Rattle.records.specs.Fill.{givenOf};
+ghost use Rattle.filled.specs.Fill.{givenOf};
 use address::Cursor;
+use filled::Given;
 use lookup::Answer;
 use lookup::Content;
 use lookup::Extent;
+use lookup::Origin;
+use lookup::Wholeness;
 use message::Field;
-use message::Origin;
-use records::Given;
 
 // status: 0 absent, 1 unknown, 2 refused, 3 a number, 4 a part, 5 broken. kind: 1 to 11 in the order of document 01's table. field: 1 options, 2 file, 3 sname.
+// several: 1 where the option comes in two or more pieces, which then have `whole` bytes together; else 0 and 0.
 #[repr(C)]
 pub struct PlainAnswer {
     pub status: u32,
@@ -34,6 +35,8 @@ pub struct PlainAnswer {
     pub offset: usize,
     pub start: usize,
     pub length: usize,
+    pub whole: usize,
+    pub several: u32,
 }
 
 // What an answer says of an option, wherever it stands.
@@ -158,12 +161,32 @@ fn place_of(status: u32, start: usize) -> usize
     if status == 5 { start - 2 } else { 0 }
 }
 
+// The length of all pieces, where there are several.
+fn whole_of(x: Wholeness) -> usize
+    ensures { λ r. ⌜ r ≡ plainWhole (wholenessOf x) ⌝ }
+{
+    match x {
+        Wholeness::InOne => 0,
+        Wholeness::InPieces(n) => n,
+    }
+}
+
+fn several_of(x: Wholeness) -> u32
+    ensures { λ r. ⌜ r ≡ plainSeveral (wholenessOf x) ⌝ }
+{
+    match x {
+        Wholeness::InOne => 0,
+        Wholeness::InPieces(_) => 1,
+    }
+}
+
 fn of_found(origin: Origin, content: Content) -> PlainAnswer
     requires { ⌜ origin .offset ≤ 65536 ⌝ }
     ensures { λ r. ⌜ r ≡ plainFound (originOf origin) (plainContent (contentOf content)) ⌝ }
 {
     let c = of_content(content);
     let field = origin.field;
+    let x = origin.wholeness;
     let start = message::base(field) + origin.offset + 2;
     PlainAnswer {
         status: c.status,
@@ -175,6 +198,8 @@ fn of_found(origin: Origin, content: Content) -> PlainAnswer
         offset: origin.offset,
         start,
         length: c.length,
+        whole: whole_of(x),
+        several: several_of(x),
     }
 }
 
@@ -203,6 +228,8 @@ fn of_refusal(status: u32, number: u32, place: usize) -> PlainAnswer
         offset: 0,
         start: 0,
         length: 0,
+        whole: 0,
+        several: 0,
     }
 }
 
@@ -308,10 +335,18 @@ fn of_given(g: Given) -> PlainFilled
     }
 }
 
-// Every option but 52, in reading order, as records in the buffer out.
+// Every code but 52, in the reading order of its first piece, as a record in the buffer out.
 #[no_mangle]
 pub extern "C" fn dhcpopt_records(m: &[u8], out: &mut [u8]) -> PlainFilled
     ensures { λ r. ⌜ (r ≡ plainFilled (answers.records (now (m .entry)) (now (out .entry)) .answer)) × (now (out .exit) ≡ answers.records (now (m .entry)) (now (out .entry)) .buffer) ⌝ }
 {
     of_given(records::records(m, out))
+}
+
+// The bytes of a code, those of all its pieces end to end, at the front of the buffer out.
+#[no_mangle]
+pub extern "C" fn dhcpopt_copy(m: &[u8], code: u8, out: &mut [u8]) -> PlainFilled
+    ensures { λ r. ⌜ (r ≡ plainFilled (answers.copy (now (m .entry)) code (now (out .entry)) .answer)) × (now (out .exit) ≡ answers.copy (now (m .entry)) code (now (out .entry)) .buffer) ⌝ }
+{
+    of_given(lookup::copy(m, code, out))
 }

@@ -1,22 +1,25 @@
 -- What C gets tells what the definition gives. Assumes nothing.
-use mathlib.Core.Path.{_≡_, refl, ap, _∙_}
+use mathlib.Core.Path.{_≡_, refl}
+use mathlib.Core.List.{List}
 use Prim.Native.Nat.{ℕ}
 use borrow.Author.Tests.{ne-eqb}
 use Rattle.options.specs.Kinds.{kinds}
 use Rattle.options.specs.Writing as options
-use Rattle.plan.specs.Answer.{answerOf, outcomeFrom}
-use Rattle.plan.specs.declared.Choice.{Choice}
-use Rattle.plan.proofs.Numbers.{answer-loses-nothing, refusals-are-numbered}
-use Rattle.dhcpopt_writer.specs.Plain.{plainWrote, choiceFrom, PlainLosesNothing, NoPlaceNoPlan}
+use Rattle.plan.specs.Answer.{answerOf}
+use Rattle.plan.proofs.Numbers.{refusals-are-numbered}
+use Rattle.dhcpopt_writer.specs.Plain.{plainWrote, plainOf, outcomeOf, PlainLosesNothing, NoPlaceNoPlan}
 
-back : (w : options.Wrote) → ((n p : ℕ) → w ≡ options.declined n p → n ≡ 0 → ⊥) → choiceFrom (plainWrote w) ≡ answerOf w
-back (options.wrote p m) h = refl
-back (options.declined n p) h = rw (ne-eqb n 0 (h n p refl))
+-- the answer inside says the same
+pub plain-answer : (single : ℕ) (w : options.Wrote) → plainOf (answerOf single w) ≡ plainWrote w
+plain-answer single (options.wrote p b) = refl
+plain-answer single (options.declined n p) = refl
+
+back : (w : options.Wrote) (m : List ℕ) → ((n p : ℕ) → w ≡ options.declined n p → n ≡ 0 → ⊥) → outcomeOf (plainWrote w) (options.bufferAfter m w) ≡ w
+back (options.wrote p b) m h = refl
+back (options.declined n p) m h = rw (ne-eqb n 0 (h n p refl))
 
 pub plain-loses-nothing : PlainLosesNothing
-plain-loses-nothing s m permission =
-    let w : options.Wrote = options.writer kinds s m permission in
-    ap (λ (r : Choice). outcomeFrom r (options.bufferAfter m w)) (back w (refusals-are-numbered s m permission)) ∙ answer-loses-nothing w m
+plain-loses-nothing s m permission = back (options.writer kinds s m permission) m (refusals-are-numbered s m permission)
 
 pub no-place-no-plan : NoPlaceNoPlan
-no-place-no-plan p n q = (refl, refl)
+no-place-no-plan p b n q = (refl, refl)

@@ -17,7 +17,7 @@ fn of_choice(c: Choice) -> PlainWrote
     ensures { λ r. ⌜ r ≡ plainOf c ⌝ }
 {
     match c {
-        Choice::Plan(plan) => PlainWrote {
+        Choice::Plan { plan, single } => PlainWrote {
             refusal: 0,
             plan: plan as u32,
             place: 0,

@@ -1,11 +1,12 @@
 -- The kinds by code, as a `match` gives them: a test, computed over an arm's codes, and for the last arm over all codes, gives the answer. Assumes nothing.
-use mathlib.Core.Path.{_≡_}
-use mathlib.Core.Bool.{Bool, true, _&&_, _||_}
+use mathlib.Core.Path.{_≡_, refl}
+use mathlib.Core.Bool.{Bool, true, false, not, _&&_, _||_}
 use mathlib.Core.List.{List, [], _∷_}
 use mathlib.Core.Logic.{inl, inr}
 use Prim.Native.Nat.{ℕ, zero, suc, _<_}
 use native.Mathlib.Omega.{arith}
 use borrow.Author.Count.{below-more}
+use borrow.Author.Tests.{eqb-false}
 use lib.Dec.{T, eqb, eqb→eq}
 use mir.Facts.{and-yes, or-yes}
 use mir.Syntax.{Body, skip, seq, assign, block, loop, cond, switch, exit, return, call, Arms, arm, default, noDefault}
@@ -56,21 +57,21 @@ listed (k ∷ l ∷ ks) n c t (inr o) = listed (l ∷ ks) n c (and-yes (is n k) 
 
 -- ---- The last arm
 
--- c is a code of an arm, or has no row
-abbrev settled : Arms → ℕ → Bool
-settled (arm ks b arms) c = hasKey ks c || settled arms c
-settled (default b) c = is 0 c
-settled noDefault c = is 0 c
+-- c is a code of an arm, or P holds of it
+abbrev settled : (ℕ → Bool) → Arms → ℕ → Bool
+settled P (arm ks b arms) c = hasKey ks c || settled P arms c
+settled P (default b) c = P c
+settled P noDefault c = P c
 
-abbrev pub allSettled : Arms → ℕ → Bool
-allSettled arms zero = true
-allSettled arms (suc n) = settled arms n && allSettled arms n
+abbrev pub allSettled : (ℕ → Bool) → Arms → ℕ → Bool
+allSettled P arms zero = true
+allSettled P arms (suc n) = settled P arms n && allSettled P arms n
 
-all-below : (arms : Arms) (n : ℕ) → T (allSettled arms n) → (c : ℕ) → c < n → T (settled arms c)
-all-below arms zero t c h = absurd (omega arith)
-all-below arms (suc n) t c h =
-    let p : T (settled arms n) × T (allSettled arms n) = and-yes (settled arms n) (allSettled arms n) t in
-    below-more (λ k. T (settled arms k)) n (all-below arms n (p .1)) (p .0) c (omega arith)
+all-below : (P : ℕ → Bool) (arms : Arms) (n : ℕ) → T (allSettled P arms n) → (c : ℕ) → c < n → T (settled P arms c)
+all-below P arms zero t c h = absurd (omega arith)
+all-below P arms (suc n) t c h =
+    let p : T (settled P arms n) × T (allSettled P arms n) = and-yes (settled P arms n) (allSettled P arms n) t in
+    below-more (λ k. T (settled P arms k)) n (all-below P arms n (p .1)) (p .0) c (omega arith)
 
 -- what the last arm knows: beside N, that c is no code of an arm
 abbrev pub Unlisted : Type 0 → Arms → ℕ → Type 0
@@ -83,14 +84,26 @@ beside N (arm ks b arms) c u = beside (N × (OneOf ks c → ⊥)) arms c u .0
 beside N (default b) c u = u
 beside N noDefault c u = u
 
-without : (N : Type 0) (arms : Arms) (c : ℕ) → T (settled arms c) → Unlisted N arms c → 0 ≡ kindNumber (kindOf c)
-without N (arm ks b arms) c t u =
-    elim (or-yes (hasKey ks c) (settled arms c) t) [
+without : (P : ℕ → Bool) (N : Type 0) (arms : Arms) (c : ℕ) → T (settled P arms c) → Unlisted N arms c → T (P c)
+without P N (arm ks b arms) c t u =
+    elim (or-yes (hasKey ks c) (settled P arms c) t) [
       | inl h ↦ absurd (beside (N × (OneOf ks c → ⊥)) arms c u .1 (hit ks c h))
-      | inr s ↦ without (N × (OneOf ks c → ⊥)) arms c s u
+      | inr s ↦ without P (N × (OneOf ks c → ⊥)) arms c s u
     ]
-without N (default b) c t u = is-kind 0 c t
-without N noDefault c t u = is-kind 0 c t
+without P N (default b) c t u = t
+without P N noDefault c t u = t
 
-pub unlisted : (arms : Arms) (c : ℕ) → T (allSettled arms 256) → c < 256 → Unlisted (Unit {0}) arms c → 0 ≡ kindNumber (kindOf c)
-unlisted arms c t h u = without (Unit {0}) arms c (all-below arms 256 t c h) u
+pub unlisted : (arms : Arms) (c : ℕ) → T (allSettled (is 0) arms 256) → c < 256 → Unlisted (Unit {0}) arms c → 0 ≡ kindNumber (kindOf c)
+unlisted arms c t h u = is-kind 0 c (without (is 0) (Unit {0}) arms c (all-below (is 0) arms 256 t c h) u)
+
+-- the last arm where the kinds but one are
+abbrev pub isNot : ℕ → ℕ → Bool
+isNot n c = not (is n c)
+
+pub unlisted-else : (n : ℕ) (arms : Arms) (c : ℕ) → T (allSettled (isNot n) arms 256) → c < 256 → Unlisted (Unit {0}) arms c → n ≡ kindNumber (kindOf c) → ⊥
+unfolding kindOf
+unlisted-else n arms c t h u e = go (is n c) refl (without (isNot n) (Unit {0}) arms c (all-below (isNot n) arms 256 t c h) u)
+  where
+    go : (b : Bool) → is n c ≡ b → T (not b) → ⊥
+    go false q y = eqb-false n (kindNumber (kindIn rows c)) q e
+    go true q y = y

@@ -10,7 +10,7 @@ use lib.Dec.{eqb}
 use lib.ListN.{length}
 use Rattle.options.specs.SheetWalk.{isBroken}
 use Rattle.options.specs.Kinds.{Kind, address, addresses, pairs, flag, octet, number16, numbers16, unsigned32, signed32, text, opaque, Value, broken, number, part, kindOf, lengthFits, valueFits, meaning, judged, judgedBy, kinds}
-use Rattle.kinds.specs.Numbers.{numberOf, kindNumber, kindAt, rowFrom, NumbersKeepTheKind, numberOfFault, faultOf, FaultsKeepTheNumber}
+use Rattle.kinds.specs.Numbers.{numberOf, kindNumber, kindAt, rowFrom, kindFrom, NumbersKeepTheKind, numberOfFault, faultOf, faultAs, isList, listFits, numberFits, FaultsKeepTheNumber}
 
 pub named : (k : Kind) → kindAt (numberOf k) ≡ k
 named address = refl
@@ -25,7 +25,7 @@ named signed32 = refl
 named text = refl
 named opaque = refl
 
-numbered : (k : Kind) → numberOf k ≡ 0 → ⊥
+pub numbered : (k : Kind) → numberOf k ≡ 0 → ⊥
 numbered k e =
     let p : k ≡ opaque = sym (named k) ∙ ap kindAt e in
     omega (arith, ap numberOf p)
@@ -39,9 +39,30 @@ pub row : (o : Option Kind) (n : ℕ) → n ≡ kindNumber o → (n ≡ 0 → �
 row none n e z = absurd (z e)
 row (some k) n e z = rw (e, named k)
 
+pub row-at : (n : ℕ) → (n ≡ 0 → ⊥) → rowFrom n ≡ some (kindAt n)
+row-at zero z = absurd (z refl)
+row-at (suc n) z = refl
+
+pub kind-back : (k : Kind) → kindFrom (numberOf k) ≡ some k
+kind-back address = refl
+kind-back addresses = refl
+kind-back pairs = refl
+kind-back flag = refl
+kind-back octet = refl
+kind-back number16 = refl
+kind-back numbers16 = refl
+kind-back unsigned32 = refl
+kind-back signed32 = refl
+kind-back text = refl
+kind-back opaque = refl
+
 pub numbers-keep-the-kind : NumbersKeepTheKind
 numbers-keep-the-kind none = refl
-numbers-keep-the-kind (some k) = go (numberOf k) refl
+numbers-keep-the-kind (some k) = kind-back k
+
+pub row-back : (o : Option Kind) → rowFrom (kindNumber o) ≡ o
+row-back none = refl
+row-back (some k) = go (numberOf k) refl
   where
     go : (n : ℕ) → numberOf k ≡ n → rowFrom n ≡ some k
     go zero e = absurd (numbered k e)
@@ -67,21 +88,72 @@ else-opaque n h =
       ne-eqb n 10 (h .1),
     )
 
--- the kinds with no rule of value
-free : (c : ℕ) (d : List ℕ) (a b e f g : Bool)
-    → valueFits (cond a address (cond b addresses (cond e unsigned32 (cond f signed32 (cond g text opaque))))) c d ≡ true
+-- the rule of value in its two parts, as the last arm of each `match` has it
+free : (c : ℕ) (d : List ℕ) (a b e f g h i : Bool)
+    → let k = cond a address (cond b addresses (cond e pairs (cond f numbers16 (cond g unsigned32 (cond h signed32 (cond i text opaque)))))) in
+    numberFits k c d ≡ true
 unfolding valueFits
-free c d true b e f g = refl
-free c d false true e f g = refl
-free c d false false true f g = refl
-free c d false false false true g = refl
-free c d false false false false true = refl
-free c d false false false false false = refl
+free c d true b e f g h i = refl
+free c d false true e f g h i = refl
+free c d false false true f g h i = refl
+free c d false false false true g h i = refl
+free c d false false false false true h i = refl
+free c d false false false false false true i = refl
+free c d false false false false false false true = refl
+free c d false false false false false false false = refl
 
-pub else-free : (n c : ℕ) (d : List ℕ) → Outside 3 5 n → valueFits (kindAt n) c d ≡ true
-else-free n c d h =
-    rw (ne-eqb n 3 (h .0 .0 .0 .0 .1), ne-eqb n 4 (h .0 .0 .0 .1), ne-eqb n 5 (h .0 .0 .1), ne-eqb n 6 (h .0 .1), ne-eqb n 7 (h .1))
-    (free c d (eqb n 1) (eqb n 2) (eqb n 8) (eqb n 9) (eqb n 10))
+pub else-number : (n c : ℕ) (d : List ℕ) → Outside 4 3 n → numberFits (kindAt n) c d ≡ true
+else-number n c d h =
+    rw (ne-eqb n 4 (h .0 .0 .1), ne-eqb n 5 (h .0 .1), ne-eqb n 6 (h .1)) (free c d (eqb n 1) (eqb n 2) (eqb n 3) (eqb n 7) (eqb n 8) (eqb n 9) (eqb n 10))
+
+module _ (n c : ℕ) (d : List ℕ) (p : n ≡ 3 → ⊥) (q : n ≡ 7 → ⊥) where
+  -- neither pairs nor numbers of 16 bits
+  abbrev rest : (a b e f g h i j : Bool) → Kind
+  rest a b e f g h i j =
+      cond a address (cond b addresses (cond e flag (cond f octet (cond g number16 (cond h unsigned32 (cond i signed32 (cond j text opaque)))))))
+
+  pub else-list : listFits (kindAt n) c d ≡ true
+  unfolding valueFits
+  else-list = rw (ne-eqb n 3 p, ne-eqb n 7 q) (go (eqb n 1) (eqb n 2) (eqb n 4) (eqb n 5) (eqb n 6) (eqb n 8) (eqb n 9) (eqb n 10))
+    where
+      go : (a b e f g h i j : Bool) → listFits (rest a b e f g h i j) c d ≡ true
+      go true b e f g h i j = refl
+      go false true e f g h i j = refl
+      go false false true f g h i j = refl
+      go false false false true g h i j = refl
+      go false false false false true h i j = refl
+      go false false false false false true i j = refl
+      go false false false false false false true j = refl
+      go false false false false false false false true = refl
+      go false false false false false false false false = refl
+
+  pub else-value : numberFits (kindAt n) c d ≡ valueFits (kindAt n) c d
+  unfolding valueFits
+  else-value = rw (ne-eqb n 3 p, ne-eqb n 7 q) (go (eqb n 1) (eqb n 2) (eqb n 4) (eqb n 5) (eqb n 6) (eqb n 8) (eqb n 9) (eqb n 10))
+    where
+      go : (a b e f g h i j : Bool) → numberFits (rest a b e f g h i j) c d ≡ valueFits (rest a b e f g h i j) c d
+      go true b e f g h i j = refl
+      go false true e f g h i j = refl
+      go false false true f g h i j = refl
+      go false false false true g h i j = refl
+      go false false false false true h i j = refl
+      go false false false false false true i j = refl
+      go false false false false false false true j = refl
+      go false false false false false false false true = refl
+      go false false false false false false false false = refl
+
+  pub else-unlisted : (n ≡ 10 → ⊥) → isList (kindAt n) ≡ false
+  else-unlisted t = rw (ne-eqb n 3 p, ne-eqb n 7 q, ne-eqb n 10 t) (go (eqb n 1) (eqb n 2) (eqb n 4) (eqb n 5) (eqb n 6) (eqb n 8) (eqb n 9))
+    where
+      go : (a b e f g h i : Bool) → isList (rest a b e f g h i false) ≡ false
+      go true b e f g h i = refl
+      go false true e f g h i = refl
+      go false false true f g h i = refl
+      go false false false true g h i = refl
+      go false false false false true h i = refl
+      go false false false false false true i = refl
+      go false false false false false false true = refl
+      go false false false false false false false = refl
 
 -- what a kind makes of data that keeps its rules is not broken, and so no fault
 pub unbroken : (k : Kind) (d : List ℕ) → isBroken (meaning k d) ≡ false
@@ -121,6 +193,14 @@ kept-by : (a b : Bool) (v : Value) → numberOfFault (cond a (cond b v (broken 9
 kept-by true true v e = refl
 kept-by true false v e = absurd (omega arith)
 kept-by false b v e = absurd (omega arith)
+
+pub fault-as-broken : (k c : ℕ) (d : List ℕ) (n : ℕ) → (k ≡ 0 → ⊥) → n ≡ faultAs k c d → (n ≡ 0 → ⊥) → judged (kindAt k) c d ≡ broken n
+unfolding faultAs
+fault-as-broken k c d n h e z = broken-by (judged (kindAt k) c d) n (rw (row-at k h) at e) z
+
+pub fault-as-kept : (k c : ℕ) (d : List ℕ) → (k ≡ 0 → ⊥) → faultAs k c d ≡ 0 → judged (kindAt k) c d ≡ meaning (kindAt k) d
+unfolding faultAs judged
+fault-as-kept k c d h e = kept-by (lengthFits (kindAt k) c (length d)) (valueFits (kindAt k) c d) (meaning (kindAt k) d) (rw (row-at k h) at e)
 
 pub fault-kept : (c : ℕ) (k : Kind) (d : List ℕ) → kindOf c ≡ some k → faultOf c d ≡ 0 → kinds .value c d ≡ meaning k d
 unfolding faultOf judged

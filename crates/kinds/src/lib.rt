@@ -2,10 +2,10 @@
 ghost use mathlib.Core.Path.{_≡_};
 ghost use mathlib.Core.List.{[], _∷_};
 ghost use Prim.Native.Nat.{_<_};
-ghost use lib.Dec.{leb};
+ghost use lib.Dec.{leb, eqb};
 ghost use Rattle.options.specs.Reading.{among};
 ghost use Rattle.options.specs.Kinds.{kindOf, both, multiples, isLength, lengthFits, addressesOf, numbersOf, octetFits, number16Fits, rising, noZeroFirst, valueFits, trimmed};
-ghost use Rattle.kinds.specs.Numbers.{kindNumber, kindAt, faultOf};
+ghost use Rattle.kinds.specs.Numbers.{kindNumber, kindAt, faultOf, faultAs, isList, listFits, numberFits};
 
 // The kinds as numbers (document 01, The kinds): its rows in their order, and 0 for a code that has none.
 pub const NO_ROW: u8 = 0;
@@ -59,6 +59,17 @@ pub fn kind(c: u8) -> u8
     }
 }
 
+// Whether the kind of the code c is text. A table for this question alone: `kind` is then asked at one place of the lookup, and compiled into it.
+pub fn is_text(c: u8) -> bool
+    ensures { λ r. ⌜ r ≡ eqb (kindNumber (kindOf c)) 10 ⌝ }
+{
+    match c {
+        12 | 14 | 17 | 40 | 56 | 64 | 66 => true,
+        15 | 18 | 67 => true,
+        _ => false,
+    }
+}
+
 // The length of a text without its trailing zeros (document 01, The kinds).
 pub fn text_len(t: &[u8]) -> usize
     ensures { λ r. ⌜ r ≡ trimmed (now (t .entry)) ⌝ }
@@ -79,7 +90,13 @@ pub fn text_len(t: &[u8]) -> usize
 pub fn fault(c: u8, d: &[u8]) -> u8
     ensures { λ r. ⌜ r ≡ faultOf c (now (d .entry)) ⌝ }
 {
-    let k = kind(c);
+    fault_of(kind(c), c, d)
+}
+
+// The same, for who has asked for the kind k of the code already.
+pub fn fault_of(k: u8, c: u8, d: &[u8]) -> u8
+    ensures { λ r. ⌜ r ≡ faultAs k c (now (d .entry)) ⌝ }
+{
     if k == NO_ROW {
         return 0;
     }
@@ -93,7 +110,7 @@ pub fn fault(c: u8, d: &[u8]) -> u8
 }
 
 // The rule of length of the kind k; 68 may also have length 0, and 61 has at least 2.
-fn length_fits(k: u8, c: u8, n: usize) -> bool
+pub fn length_fits(k: u8, c: u8, n: usize) -> bool
     ensures { λ r. ⌜ r ≡ lengthFits (kindAt k) c n ⌝ }
 {
     match k {
@@ -137,16 +154,48 @@ fn value_fits(k: u8, c: u8, d: &[u8]) -> bool
     ensures { λ r. ⌜ r ≡ valueFits (kindAt k) c (now (d .entry)) ⌝ }
 {
     match k {
+        PAIRS => list_fits(k, c, d),
+        NUMBERS16 => list_fits(k, c, d),
+        _ => number_fits(k, c, d),
+    }
+}
+
+// Whether all bytes of data of the kind k are looked at, by its rule of value or for the answer. Of the other kinds the first four are enough.
+pub fn is_list(k: u8) -> bool
+    ensures { λ r. ⌜ r ≡ isList (kindAt k) ⌝ }
+{
+    match k {
+        PAIRS => true,
+        NUMBERS16 => true,
+        TEXT => true,
+        _ => false,
+    }
+}
+
+// The rule of value of those kinds.
+pub fn list_fits(k: u8, c: u8, d: &[u8]) -> bool
+    ensures { λ r. ⌜ r ≡ listFits (kindAt k) c (now (d .entry)) ⌝ }
+{
+    match k {
         PAIRS => {
             if c == 33 {
                 return destinations_fit(d);
             }
             true
         }
+        NUMBERS16 => never_falling(d),
+        _ => true,
+    }
+}
+
+// That of the other kinds.
+pub fn number_fits(k: u8, c: u8, d: &[u8]) -> bool
+    ensures { λ r. ⌜ r ≡ numberFits (kindAt k) c (now (d .entry)) ⌝ }
+{
+    match k {
         FLAG => num::byte(d, 0) <= 1,
         OCTET => octet_fits(c, num::byte(d, 0)),
-        NUMBER16 => number_fits(c, num::first16(d)),
-        NUMBERS16 => never_falling(d),
+        NUMBER16 => number16_fits(c, num::first16(d)),
         _ => true,
     }
 }
@@ -185,7 +234,7 @@ fn from_one(v: u8, most: u8) -> bool
 }
 
 // 22 and 57: at least 576; 26: at least 68; 13: any.
-fn number_fits(c: u8, v: u16) -> bool
+fn number16_fits(c: u8, v: u16) -> bool
     ensures { λ r. ⌜ r ≡ number16Fits c v ⌝ }
 {
     match c {

@@ -5,10 +5,10 @@ use mathlib.Core.Logic.{inl, inr}
 use Prim.Native.Nat.{ℕ, _+_, _*_, _≤_, _<_}
 use native.Mathlib.Omega.{arith}
 use lib.ListN.{length, length-append}
-use Rattle.options.specs.Message.{Opt, dataStart, Standing}
+use Rattle.options.specs.Message.{Opt, dataStart, Standing, In}
 use Rattle.options.specs.Answers.{lineOf, linesOf, acceptedLine, refusedLine}
 use Rattle.options.specs.KindClaims.{AllBytes}
-use Rattle.options.specs.ReadingClaims.{In, IsAccepted}
+use Rattle.options.specs.ReadingClaims.{IsAccepted}
 use Rattle.theorems.proofs.Fields.{option-in}
 use Rattle.theorems.proofs.Reading.{listed-stands}
 use Rattle.theorems.proofs.CodesPresent.{listed-small}

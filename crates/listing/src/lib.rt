@@ -89,14 +89,11 @@ pub fn list(m: &[u8], out: &mut [u8; 16384]) -> usize
     ensures size { λ r. ⌜ r ≡ length (listing (now (m .entry))) ⌝ }
     ensures text { λ _. ⌜ now (out .exit) ≡ listing (now (m .entry)) ++ drop (length (listing (now (m .entry)))) (now (out .entry)) ⌝ }
 {
-    // 0 is no code: none is looked for.
     let mut seen = [0; 4];
-    let w = message::scan(m, 0, &mut seen);
+    let w = message::codes(m, &mut seen);
     if w.number != 0 {
         return put_refusal(w.number, w.place, out);
     }
-    // The codes are distinct, so the set of them counts the options.
-    let n = codeset::count(seen);
-    let a = put_count(n as usize, out);
+    let a = put_count(w.count, out);
     put_lines(m, w.over, out, a)
 }

@@ -7,13 +7,18 @@ use lib.IntN.{ℤ, pos, negsuc}
 use Rattle.options.specs.Kinds.{broken, number, part}
 use Rattle.options.specs.Answers as asked
 use Rattle.kinds.specs.Numbers.{numberOf}
-use Rattle.message.proofs.Origins.{originFrom, origin-held}
+use Rattle.message.specs.declared.Field as coded
+use Rattle.message.specs.Fields.{fieldOf, codedField}
+use Rattle.message.proofs.Names.{field-back}
+use Rattle.lookup.specs.declared.Wholeness.{Wholeness}
+use Rattle.lookup.specs.declared.Wholeness.the-variants.{InOne, InPieces}
+use Rattle.lookup.specs.declared.Origin.{Origin}
 use Rattle.lookup.specs.declared.Answer.{Answer}
 use Rattle.lookup.specs.declared.Answer.the-variants.{Absent, Refused, Found}
 use Rattle.lookup.specs.declared.Content.{Content}
 use Rattle.lookup.specs.declared.Content.the-variants.{Unknown, Broken, Address, Addresses, Pairs, Flag, Octet, Number16, Numbers16, Unsigned32, Signed32, Text, Opaque}
 use Rattle.lookup.specs.declared.Extent.{Extent}
-use Rattle.lookup.specs.Shown.{contentOf, answerOf, extentOf, OneValueAnAnswer, OneValueAPart}
+use Rattle.lookup.specs.Shown.{contentOf, wholenessOf, originOf, answerOf, extentOf, OneValueAnAnswer, OneValueAPart}
 
 magnitude : ℤ → ℕ
 magnitude (pos n) = n
@@ -51,6 +56,20 @@ content-held (Unsigned32 n) = refl
 content-held (Signed32 z) = refl
 content-held (Text n) = refl
 content-held (Opaque n) = refl
+
+abbrev wholenessFrom : asked.Wholeness → Wholeness
+wholenessFrom asked.inOne = InOne
+wholenessFrom (asked.inPieces n) = InPieces n
+
+whole-held : (x : Wholeness) → wholenessFrom (wholenessOf x) ≡ x
+whole-held InOne = refl
+whole-held (InPieces n) = refl
+
+abbrev originFrom : asked.Origin → Origin
+originFrom g = record { field = codedField (g .field); offset = g .offset; wholeness = wholenessFrom (g .wholeness) }
+
+origin-held : (g : Origin) → originFrom (originOf g) ≡ g
+origin-held g = ap₂ (λ (f : coded.Field) (x : Wholeness). record { field = f; offset = g .offset; wholeness = x }) (field-back (g .field)) (whole-held (g .wholeness))
 
 abbrev valueFrom : asked.Answer → Answer
 valueFrom asked.Absent = Absent

@@ -1,16 +1,25 @@
-// Look up a code, its data and its text (document 01, What is asked of a message).
+// Look up a code, its data and its text, and copy its bytes (document 01, What is asked of a message; document 02, requests 01 and 02).
 ghost use mathlib.Core.Path.{_≡_};
-ghost use Prim.Native.Nat.{_≤_, _<_, _+_, _-_};
+ghost use mathlib.Core.Bool.{true, false};
+ghost use mathlib.Core.List.{_++_};
+ghost use Prim.Native.Nat.{_≤_, _+_};
 ghost use lib.ListN.{length, getD};
 ghost use Rattle.message.specs.Scan.{scanOf};
 ghost use Rattle.message.specs.Part.{partAt};
-ghost use Rattle.options.specs.Kinds.{kinds};
+ghost use Rattle.options.specs.Kinds.{kinds, judged};
 ghost use Rattle.options.specs.CodeSet.{marked};
 ghost use Rattle.options.specs.Answers as asked;
-ghost use Rattle.lookup.specs.Shown.{contentOf, answerOf, extentOf};
-ghost use Rattle.lookup.specs.Found.{Within, foundIn, valueOf, clipped, extentIn};
-use message::Origin;
-use wire::Walked;
+ghost use Rattle.cursor.specs.Cursor.{firstPosition};
+ghost use Rattle.buffer.specs.Written.{Written};
+ghost use Rattle.text.specs.Text.{Puts};
+ghost use Rattle.gather.specs.Joined.{joinedFrom};
+ghost use Rattle.filled.specs.Fill.{Fills};
+ghost use Rattle.lookup.specs.Shown.{contentOf, wholenessOf, originOf, answerOf, extentOf};
+ghost use Rattle.kinds.specs.Numbers.{kindAt, isList, listFits, numberFits};
+ghost use Rattle.lookup.specs.Found.{originAt, valueOf, knownKind, contentBy, meaningOf, judgedOf, severalAt, sizeAt, dataAt, InPieces, clipped};
+use filled::Given;
+use message::Field;
+use message::Scanned;
 
 // What is answered of an option, wherever it stands (document 01, What is asked of a message): unknown, with the length of its data; broken, with 8 or 9; or
 // its kind, with the number or the length.
@@ -28,6 +37,20 @@ pub enum Content {
     Signed32(i32),
     Text(usize),
     Opaque(usize),
+}
+
+// Whether an option comes in one piece, or in several, which then have so many bytes together (document 02, request 02).
+pub enum Wholeness {
+    InOne,
+    InPieces(usize),
+}
+
+// Where an option stands (document 02, requests 01 and 02): the field that holds its code byte, that byte's offset in it, and whether that is the first of
+// several pieces.
+pub struct Origin {
+    pub field: Field,
+    pub offset: usize,
+    pub wholeness: Wholeness,
 }
 
 // The answer to a lookup. Every answer but absent says where the option stands (document 02, request 01).
@@ -62,49 +85,227 @@ fn value(k: u8, d: &[u8]) -> Content
     }
 }
 
-// What is answered of a code with the data d, given the set of known codes.
-fn judge(known: [u64; 4], code: u8, d: &[u8]) -> Content
-    ensures { λ r. ⌜ contentOf r ≡ asked.contentOf kinds (marked known) code (now (d .entry)) ⌝ }
+// The kind of a code, as a number; 0 where it has none, or is not known.
+fn known_kind(known: [u64; 4], code: u8) -> u8
+    ensures { λ r. ⌜ r ≡ knownKind (marked known) code ⌝ }
 {
-    let k = kinds::kind(code);
-    if k == 0 {
+    if codeset::contains(known, code) {
+        return kinds::kind(code);
+    }
+    0
+}
+
+// What is answered of a code of the kind k, with the data d.
+fn judge(k: u8, code: u8, d: &[u8]) -> Content
+    ensures { λ r. ⌜ contentOf r ≡ contentBy k code (now (d .entry)) ⌝ }
+{
+    if k == kinds::NO_ROW {
         return Content::Unknown(d.len());
     }
-    if !codeset::contains(known, code) {
-        return Content::Unknown(d.len());
-    }
-    let number = kinds::fault(code, d);
+    let number = kinds::fault_of(k, code, d);
     if number != 0 {
         return Content::Broken(number as u32);
     }
     value(k, d)
 }
 
-// The length of data that start at a place: the byte before them.
-fn len_at(m: &[u8], start: usize) -> usize
-    requires { ⌜ (0 < start) × (start ≤ length (now m)) ⌝ }
-    ensures { λ r. ⌜ (r ≡ getD (now (m .entry)) (start - 1) 0) × (r < 256) ⌝ }
+// What data of n bytes means, of which d has as many as the kind needs. Data in one piece goes by `value`, which is then called at one place and compiled
+// into it.
+fn joined_value(k: u8, n: usize, d: &[u8]) -> Content
+    ensures { λ r. ⌜ contentOf r ≡ asked.known (meaningOf (kindAt k) n (now (d .entry))) ⌝ }
 {
-    num::wide(m[start - 1])
+    match k {
+        kinds::ADDRESS => Content::Address(num::first32(d)),
+        kinds::ADDRESSES => Content::Addresses(n),
+        kinds::PAIRS => Content::Pairs(n),
+        kinds::FLAG => Content::Flag(num::byte(d, 0)),
+        kinds::OCTET => Content::Octet(num::byte(d, 0)),
+        kinds::NUMBER16 => Content::Number16(num::first16(d)),
+        kinds::NUMBERS16 => Content::Numbers16(n),
+        kinds::UNSIGNED32 => Content::Unsigned32(num::first32(d)),
+        kinds::SIGNED32 => Content::Signed32(num::signed(num::first32(d))),
+        kinds::TEXT => Content::Text(kinds::text_len(d)),
+        _ => Content::Opaque(n),
+    }
 }
 
-// The answer for an option whose data start at a place, or that was not met (0).
-fn found(m: &[u8], known: [u64; 4], code: u8, start: usize) -> Answer
-    requires { ⌜ Within (now m) start ⌝ }
-    ensures { λ r. ⌜ answerOf r ≡ foundIn (now (m .entry)) (marked known) code start ⌝ }
+// What is answered of a code of the kind k with n bytes, of which d has the first four.
+fn judge_head(k: u8, code: u8, n: usize, d: &[u8]) -> Content
+    ensures { λ r. ⌜ contentOf r ≡ asked.known (judgedOf (kindAt k) code n (numberFits (kindAt k) code (now (d .entry))) (now (d .entry))) ⌝ }
 {
-    if start == 0 {
-        return Answer::Absent;
+    if !kinds::length_fits(k, code, n) {
+        return Content::Broken(8);
     }
-    let end = start + len_at(m, start);
-    // Before the data are judged: the compiler then goes from a kind straight to its answer.
-    let origin = message::origin_at(start - 2);
-    let content = judge(known, code, &m[start..end]);
+    if !kinds::number_fits(k, code, d) {
+        return Content::Broken(9);
+    }
+    joined_value(k, n, d)
+}
+
+// The same, where d has all n bytes.
+fn judge_list(k: u8, code: u8, n: usize, d: &[u8]) -> Content
+    ensures { λ r. ⌜ contentOf r ≡ asked.known (judgedOf (kindAt k) code n (listFits (kindAt k) code (now (d .entry))) (now (d .entry))) ⌝ }
+{
+    if !kinds::length_fits(k, code, n) {
+        return Content::Broken(8);
+    }
+    if !kinds::list_fits(k, code, d) {
+        return Content::Broken(9);
+    }
+    joined_value(k, n, d)
+}
+
+// The origin of an option whose code byte stands at a place of the message. The fields lie apart, so the place tells the field.
+fn origin_at(place: usize, wholeness: Wholeness) -> Origin
+    ensures { λ r. ⌜ originOf r ≡ originAt place (wholenessOf wholeness) ⌝ }
+{
+    if 240 <= place {
+        return Origin {
+            field: Field::Options,
+            offset: place - 240,
+            wholeness,
+        };
+    }
+    if 108 <= place {
+        return Origin {
+            field: Field::File,
+            offset: place - 108,
+            wholeness,
+        };
+    }
+    if place < 44 {
+        return Origin {
+            field: Field::Sname,
+            offset: 0,
+            wholeness,
+        };
+    }
+    Origin {
+        field: Field::Sname,
+        offset: place - 44,
+        wholeness,
+    }
+}
+
+// The data of the option whose code byte stands at a place of the message.
+fn piece(m: &[u8], place: usize) -> &[u8]
+    requires { ⌜ place + 2 + sizeAt (now m) place ≤ length (now m) ⌝ }
+    ensures { λ r. ⌜ now r ≡ dataAt (now (m .entry)) place ⌝ }
+{
+    let start = place + 2;
+    let end = start + num::wide(m[place + 1]);
+    &m[start..end]
+}
+
+// The byte at i of two parts end to end, or 0 past their end.
+fn byte_of_both(a: &[u8], b: &[u8], i: usize) -> u8
+    ensures { λ r. ⌜ r ≡ getD (now (a .entry) ++ now (b .entry)) i 0 ⌝ }
+{
+    if i < a.len() {
+        return a[i];
+    }
+    num::byte(b, i - a.len())
+}
+
+// What is answered of a code of the kind k whose bytes are two parts, where the kind looks at few of them.
+fn judge_both(k: u8, code: u8, a: &[u8], b: &[u8]) -> Content
+    requires { ⌜ isList (kindAt k) ≡ false ⌝ }
+    ensures { λ r. ⌜ contentOf r ≡ asked.known (judged (kindAt k) code (now (a .entry) ++ now (b .entry))) ⌝ }
+{
+    let head = [
+        byte_of_both(a, b, 0),
+        byte_of_both(a, b, 1),
+        byte_of_both(a, b, 2),
+        byte_of_both(a, b, 3),
+    ];
+    judge_head(k, code, a.len() + b.len(), &head)
+}
+
+// Puts two parts end to end at the front of a buffer, and gives the index after them.
+fn put_both(a: &[u8], b: &[u8], out: &mut [u8]) -> usize
+    requires { ⌜ length (now a) + length (now b) ≤ length (now out) ⌝ }
+    ensures { λ r. ⌜ Written (now (out .entry)) 0 (now (a .entry) ++ now (b .entry)) r (now (out .exit)) ⌝ }
+{
+    let n = a.len();
+    let e = n + b.len();
+    buffer::copy(&mut out[0..n], a);
+    buffer::copy(&mut out[n..e], b);
+    e
+}
+
+// Of a code that comes in several pieces, once the message was walked. The pieces lie apart. Where there are two, as nearly always, they are found without
+// another walk: the walk tells where the first and the last stand. Else they are gathered.
+
+// All their bytes, at the front of a buffer that has room for them. Gives the index after them.
+fn put_pieces(m: &[u8], code: u8, w: Scanned, out: &mut [u8]) -> usize
+    requires { ⌜ InPieces (now m) code w × (w .whole ≤ length (now out)) ⌝ }
+    ensures { λ r. ⌜ Puts (now (out .entry)) 0 (joinedFrom (w .over) (now (m .entry)) firstPosition code) r (now (out .exit)) ⌝ }
+{
+    let first = piece(m, w.start - 2);
+    let last = piece(m, w.last);
+    if first.len() + last.len() == w.whole {
+        return put_both(first, last, out);
+    }
+    gather::gather(m, w.over, cursor::first(), code, out, 0)
+}
+
+// What is answered where the kind looks at all bytes: they are put into a buffer of the function's own.
+fn by_list(m: &[u8], k: u8, code: u8, w: Scanned) -> Content
+    requires { ⌜ (isList (kindAt k) ≡ true) × InPieces (now m) code w ⌝ }
+    ensures { λ r. ⌜ contentOf r ≡ asked.known (judged (kindAt k) code (joinedFrom (w .over) (now (m .entry)) firstPosition code)) ⌝ }
+{
+    let mut joined = [0u8; 1472];
+    let n = put_pieces(m, code, w, &mut joined);
+    judge_list(k, code, n, &joined[..n])
+}
+
+// What is answered where the kind looks at few: of three pieces or more the first four bytes are gathered.
+fn by_first_four(m: &[u8], k: u8, code: u8, w: Scanned) -> Content
+    requires { ⌜ (isList (kindAt k) ≡ false) × InPieces (now m) code w ⌝ }
+    ensures { λ r. ⌜ contentOf r ≡ asked.known (judged (kindAt k) code (joinedFrom (w .over) (now (m .entry)) firstPosition code)) ⌝ }
+{
+    let mut head = [0u8; 4];
+    let h = gather::gather(m, w.over, cursor::first(), code, &mut head, 0);
+    judge_head(k, code, w.whole, &head[..h])
+}
+
+fn by_head(m: &[u8], k: u8, code: u8, w: Scanned) -> Content
+    requires { ⌜ (isList (kindAt k) ≡ false) × InPieces (now m) code w ⌝ }
+    ensures { λ r. ⌜ contentOf r ≡ asked.known (judged (kindAt k) code (joinedFrom (w .over) (now (m .entry)) firstPosition code)) ⌝ }
+{
+    let first = piece(m, w.start - 2);
+    let last = piece(m, w.last);
+    if first.len() + last.len() == w.whole {
+        return judge_both(k, code, first, last);
+    }
+    by_first_four(m, k, code, w)
+}
+
+fn judge_pieces(m: &[u8], k: u8, code: u8, w: Scanned) -> Content
+    requires { ⌜ InPieces (now m) code w ⌝ }
+    ensures { λ r. ⌜ contentOf r ≡ contentBy k code (joinedFrom (w .over) (now (m .entry)) firstPosition code) ⌝ }
+{
+    if k == kinds::NO_ROW {
+        return Content::Unknown(w.whole);
+    }
+    if kinds::is_list(k) {
+        return by_list(m, k, code, w);
+    }
+    by_head(m, k, code, w)
+}
+
+// The answer for a code of the kind k that comes in several pieces.
+fn in_pieces(m: &[u8], k: u8, code: u8, w: Scanned) -> Answer
+    requires { ⌜ InPieces (now m) code w ⌝ }
+    ensures { λ r. ⌜ answerOf r ≡ severalAt k code (w .start) (joinedFrom (w .over) (now (m .entry)) firstPosition code) ⌝ }
+{
+    let origin = origin_at(w.start - 2, Wholeness::InPieces(w.whole));
+    let content = judge_pieces(m, k, code, w);
     Answer::Found { origin, content }
 }
 
 // The answer once the message was walked.
-fn answer_in(m: &[u8], known: [u64; 4], code: u8, w: Walked) -> Answer
+fn answer_in(m: &[u8], known: [u64; 4], code: u8, w: Scanned) -> Answer
     requires { ⌜ (code ≡ 0 → ⊥) × (code ≡ 255 → ⊥) × (w ≡ scanOf code (now m)) ⌝ }
     ensures { λ r. ⌜ answerOf r ≡ asked.lookup kinds (marked known) (now (m .entry)) code ⌝ }
 {
@@ -114,7 +315,19 @@ fn answer_in(m: &[u8], known: [u64; 4], code: u8, w: Walked) -> Answer
             place: w.place,
         };
     }
-    found(m, known, code, w.start)
+    let start = w.start;
+    if start == 0 {
+        return Answer::Absent;
+    }
+    let k = known_kind(known, code);
+    if w.last + 2 != start {
+        return in_pieces(m, k, code, w);
+    }
+    let end = start + w.whole;
+    // Before the data are judged: the compiler then goes from a kind straight to its answer.
+    let origin = origin_at(start - 2, Wholeness::InOne);
+    let content = judge(k, code, &m[start..end]);
+    Answer::Found { origin, content }
 }
 
 // Looks up a code, given the set of known codes. One walk over the message.
@@ -146,18 +359,18 @@ fn clip(start: usize, len: usize) -> Extent
     Extent { start, len }
 }
 
-// The data part of an option whose data start at a place, or that was not met (0).
-fn data_in(m: &[u8], start: usize) -> Extent
-    requires { ⌜ Within (now m) start ⌝ }
-    ensures { λ r. ⌜ extentOf r ≡ extentIn (now (m .entry)) start ⌝ }
+// The data part of a code, once the message was walked.
+fn data_in(m: &[u8], code: u8, w: Scanned) -> Extent
+    requires { ⌜ (code ≡ 0 → ⊥) × (code ≡ 255 → ⊥) × (w ≡ scanOf code (now m)) ⌝ }
+    ensures { λ r. ⌜ extentOf r ≡ asked.dataOf (now (m .entry)) code ⌝ }
 {
-    if start == 0 {
+    if w.last + 2 != w.start {
         return Extent { start: 0, len: 0 };
     }
-    clip(start, len_at(m, start))
+    clip(w.start, w.whole)
 }
 
-// Where all data bytes of a code stand, whether it is known or not, broken or not.
+// Where all data bytes of a code stand, whether it is known or not, broken or not; empty where they stand in several pieces.
 pub fn data_extent(m: &[u8], code: u8) -> Extent
     ensures { λ r. ⌜ extentOf r ≡ asked.dataOf (now (m .entry)) code ⌝ }
 {
@@ -167,11 +380,11 @@ pub fn data_extent(m: &[u8], code: u8) -> Extent
     if code == 255 {
         return Extent { start: 0, len: 0 };
     }
-    let w = message::find(m, code);
-    data_in(m, w.start)
+    data_in(m, code, message::find(m, code))
 }
 
-// The data bytes of a code, as a part of the message, at their own place; empty when the code is absent or the call is refused.
+// The data bytes of a code, as a part of the message, at their own place; empty when the code is absent, when it comes in several
+// pieces, or when the call is refused.
 pub fn data(m: &[u8], code: u8) -> &[u8]
     ensures { λ r. ⌜ (now r ≡ asked.bytesOf (now (m .entry)) (asked.dataOf (now (m .entry)) code)) × (r .ptr .0 ≡ m .entry .ptr .0) × (r .ptr .1 ≡ partAt (length (now (m .entry))) (asked.dataOf (now (m .entry)) code .start) + m .entry .ptr .1) ⌝ }
 {
@@ -179,25 +392,29 @@ pub fn data(m: &[u8], code: u8) -> &[u8]
     message::part(m, e.start, e.len)
 }
 
-// The text part of an option whose data start at a place, or that was not met (0). A text of length 0, which is refused, has an empty part as well.
-fn text_in(m: &[u8], set: [u64; 4], code: u8, start: usize) -> Extent
-    requires { ⌜ Within (now m) start ⌝ }
-    ensures { λ r. ⌜ extentOf r ≡ asked.textIn (foundIn (now (m .entry)) (marked set) code start) ⌝ }
+// The text part of a code, once the message was walked. A text of length 0, which is refused, has an empty part as well.
+fn text_in(m: &[u8], set: [u64; 4], code: u8, w: Scanned) -> Extent
+    requires { ⌜ (code ≡ 0 → ⊥) × (code ≡ 255 → ⊥) × (w ≡ scanOf code (now m)) ⌝ }
+    ensures { λ r. ⌜ extentOf r ≡ asked.textOf (marked set) (now (m .entry)) code ⌝ }
 {
+    let start = w.start;
     if start == 0 {
         return Extent { start: 0, len: 0 };
     }
-    if kinds::kind(code) != kinds::TEXT {
+    if w.last + 2 != start {
+        return Extent { start: 0, len: 0 };
+    }
+    if !kinds::is_text(code) {
         return Extent { start: 0, len: 0 };
     }
     if !codeset::contains(set, code) {
         return Extent { start: 0, len: 0 };
     }
-    let end = start + len_at(m, start);
+    let end = start + w.whole;
     clip(start, kinds::text_len(&m[start..end]))
 }
 
-// Where the text of a code stands, without its trailing zeros.
+// Where the text of a code stands, without its trailing zeros; empty where it stands in several pieces.
 pub fn text_extent(m: &[u8], known: [u64; 4], code: u8) -> Extent
     ensures { λ r. ⌜ extentOf r ≡ asked.textOf (marked known) (now (m .entry)) code ⌝ }
 {
@@ -207,8 +424,7 @@ pub fn text_extent(m: &[u8], known: [u64; 4], code: u8) -> Extent
     if code == 255 {
         return Extent { start: 0, len: 0 };
     }
-    let w = message::find(m, code);
-    text_in(m, known, code, w.start)
+    text_in(m, known, code, message::find(m, code))
 }
 
 // The text of a code, as a part of the message, at its own place; empty unless the lookup answers text.
@@ -217,4 +433,53 @@ pub fn text(m: &[u8], known: [u64; 4], code: u8) -> &[u8]
 {
     let e = text_extent(m, known, code);
     message::part(m, e.start, e.len)
+}
+
+// The copy of a code, once the message was walked.
+fn copy_in(m: &[u8], code: u8, w: Scanned, out: &mut [u8]) -> Given
+    requires { ⌜ (code ≡ 0 → ⊥) × (code ≡ 255 → ⊥) × (w ≡ scanOf code (now m)) ⌝ }
+    ensures { λ r. ⌜ Fills (asked.copy (now (m .entry)) code (now (out .entry))) r (now (out .exit)) ⌝ }
+{
+    if w.number != 0 {
+        return Given::Refused {
+            number: w.number,
+            place: w.place,
+        };
+    }
+    if w.start == 0 {
+        return Given::Refused {
+            number: 11,
+            place: 0,
+        };
+    }
+    let room = out.len();
+    if room < w.whole {
+        return Given::Refused {
+            number: 11,
+            place: room,
+        };
+    }
+    if w.last + 2 == w.start {
+        return Given::Bytes(text::put_word(out, 0, message::part(m, w.start, w.whole)));
+    }
+    Given::Bytes(put_pieces(m, code, w, out))
+}
+
+// Copies the bytes of a code, those of all its pieces end to end, to the front of a lent buffer, and gives their number (document 02, request 02).
+pub fn copy(m: &[u8], code: u8, out: &mut [u8]) -> Given
+    ensures { λ r. ⌜ Fills (asked.copy (now (m .entry)) code (now (out .entry))) r (now (out .exit)) ⌝ }
+{
+    if code == 0 {
+        return Given::Refused {
+            number: 10,
+            place: 0,
+        };
+    }
+    if code == 255 {
+        return Given::Refused {
+            number: 10,
+            place: 0,
+        };
+    }
+    copy_in(m, code, message::find(m, code), out)
 }

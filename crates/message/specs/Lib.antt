@@ -1,8 +1,8 @@
 -- What the public contracts rest on
 pub mod Fields
-pub mod Origins
 pub mod Part
 pub mod Active
 pub mod Scan
 -- Internals
+pub mod Walk
 pub mod Walking

@@ -1,77 +1,80 @@
 -- The walk over a message field after field, as the code goes: no public contract rests on this. Assumes nothing.
 use mathlib.Core.Path.{_≡_}
 use mathlib.Core.Bool.{Bool, true, false, cond}
-use mathlib.Core.List.{List}
+use mathlib.Core.List.{List, [], _∷_}
 use Prim.Native.Nat.{ℕ, _+_, _≤_}
 use lib.ListN.{length, take, drop}
 use lib.Dec.{ltb, eqb}
-use Rattle.options.specs.Message.{file, sname, bytes, cookie, shortest, longest}
-use Rattle.options.specs.Reading.{same, fileIn, snameIn}
-use Rattle.wire.specs.Walk.{Walk, stop, walkField, walkedOf}
-use Rattle.wire.specs.declared.Walked as flat
-use Rattle.message.specs.Scan.{stopAt}
+use Rattle.options.specs.Message.{Opt, Field, options, file, sname, start, bytes, cookie, shortest, longest}
+use Rattle.options.specs.Reading.{same, parse, isOptions, fileIn, snameIn, readMessage, accepted}
+use Rattle.options.specs.CodeSet.{withMark}
+use Rattle.message.specs.declared.Walked.{Walked}
+use Rattle.message.specs.declared.Scanned.{Scanned}
+use Rattle.message.specs.Active.{activeIn}
+use Rattle.message.specs.Scan.{refusedAt, scanIn}
+use Rattle.message.specs.Walk.{Run, Walk, begun, done, walkOf, walkedOf}
 
 -- 1, 2 or 3 where length or cookie are refused, else 0
 abbrev pub unfitOf : List ℕ → ℕ
 unfitOf m =
     cond (ltb (length m) shortest) 1 (cond (ltb longest (length m)) 2 (cond (same (take 4 (drop 236 m)) cookie) 0 3))
 
--- the first value that is not 0
-abbrev pub firstOf : ℕ → ℕ → ℕ
-firstOf a b = cond (eqb a 0) b a
+-- the field that is read after another: 0 options, 1 file, 2 sname, 3 none
+abbrev pub afterFile : ℕ → ℕ
+afterFile over = cond (snameIn over) 2 3
 
--- the walk w of one more field, whose first byte is at base, on top of a
-abbrev pub onTop : ℕ → flat.Walked → flat.Walked → flat.Walked
-onTop base w a =
-    cond (eqb (w .number) 0)
+abbrev pub afterOptions : ℕ → ℕ
+afterOptions over = cond (fileIn over) 1 (afterFile over)
+
+abbrev pub nextField : ℕ → ℕ → ℕ
+nextField turn over = cond (eqb over 0) 3 (cond (eqb turn 0) (afterOptions over) (cond (eqb turn 1) (afterFile over) 3))
+
+-- the number of the refusal that an end is
+abbrev pub numberOf : ℕ → ℕ
+numberOf end = cond (eqb end 1) 5 (cond (eqb end 2) 4 (cond (eqb end 3) 6 7))
+
+abbrev pub scannedOf : Bool → Walked → Scanned
+scannedOf marks s =
+    cond (eqb (s .end) 0)
     (record {
-      start = cond (eqb (w .start) 0) (a .start) (base + w .start);
-      used = a .used + w .used;
+      start = s .kept .start;
+      last = s .kept .last;
+      whole = s .kept .whole;
+      used = cond marks (s .used) 0;
+      count = cond marks (s .count) 0;
       place = 0;
-      over = firstOf (a .over) (w .over);
+      over = s .kept .over;
       number = 0;
     })
-    (stopAt (w .number) (base + w .place))
+    (refusedAt (numberOf (s .end)) (s .place))
 
--- a further field, where it is active
-abbrev pub walkIf : Bool → ℕ → List ℕ → List ℕ → Walk
-walkIf true want w f = walkField false want w f
-walkIf false want w f = stop (record { seen = w; start = 0; over = 0; used = 0 }) 0 0
+-- ---- field after field
 
--- what was kept, and the codes met
-pub record Fields : Type 0 where
-  pub kept : flat.Walked
-  pub seen : List ℕ
+module _ (w : List ℕ) (marks : Bool) (want : ℕ) (m : List ℕ) where
+  -- the walk of a field on top of what was met before
+  unfoldable pub walkField : Field → Run → Walk
+  unfolding walkOf parse
+  walkField fd s = walkOf w marks (isOptions fd) want (start fd) s (parse 0 0 (bytes fd m))
 
--- sname, after what options and file gave (b); a refusal is handed on
-abbrev pub lastField : ℕ → List ℕ → ℕ → flat.Walked → List ℕ → Fields
-lastField want m v b w =
-    let s : Walk = walkIf (snameIn v) want w (bytes sname m) in
-    cond (eqb (b .number) 0) (record { kept = onTop 44 (walkedOf s) b; seen = s .state .seen }) (record { kept = b; seen = w })
+  -- one more field, where nothing was refused and the field is active
+  abbrev pub step : Field → Walk → Walk
+  step fd k = cond (eqb (k .end) 0) (cond (activeIn (k .run .kept .over) fd) (walkField fd (k .run)) k) k
 
--- file and sname, after what options gave (a); without option 52 that is all, and a refusal tells of none
-abbrev pub furtherFields : ℕ → List ℕ → flat.Walked → List ℕ → Fields
-furtherFields want m a w =
-    let f : Walk = walkIf (fileIn (a .over)) want w (bytes file m) in
-    let last : Fields = lastField want m (a .over) (onTop 108 (walkedOf f) a) (f .state .seen) in
-    cond (eqb (a .over) 0) (record { kept = a; seen = w }) last
+  unfoldable pub allWalked : List ℕ → Walk
+  unfolding walkField
+  allWalked set = step sname (step file (walkField options (begun set)))
 
-unfoldable pub fieldsOf : ℕ → List ℕ → List ℕ → Fields
-unfolding walkField
-fieldsOf want m w =
-    let o : Walk = walkField true want w (drop 240 m) in
-    furtherFields want m (onTop 240 (walkedOf o) (stopAt 0 0)) (o .state .seen)
+-- the codes of options but 52, put into a set
+unfoldable pub othersIn : List ℕ → List Opt → List ℕ
+othersIn set [] = set
+othersIn set (o ∷ os) = othersIn (cond (eqb (o .item .tag) 52) set (withMark set (o .item .tag))) os
 
--- the results of the code's functions, and the set of codes that they leave
+-- r is the walk of all fields, which leaves the set w′
+pub record Gives (w : List ℕ) (marks : Bool) (want : ℕ) (m : List ℕ) (set : List ℕ) (r : Walked) (set′ : List ℕ) : Type 0 where
+  pub is : r ≡ walkedOf (allWalked w marks want m set)
+  pub codes : set′ ≡ allWalked w marks want m set .run .set
 
--- r is the walk k, and what it tells is within 65,536 bytes
-pub record Goes (k : Walk) (r : flat.Walked) (w : List ℕ) : Type 0 where
-  pub is : r ≡ walkedOf k
-  pub codes : w ≡ k .state .seen
-  pub start-in : r .start ≤ 65536
-  pub used-in : r .used ≤ 65536
-  pub place-in : r .place ≤ 65536
-
-pub record Gives (f : Fields) (r : flat.Walked) (w : List ℕ) : Type 0 where
-  pub is : r ≡ f .kept
-  pub codes : w ≡ f .seen
+-- r is what is told of m; where options are marked, and 52 is the wanted code, the set gets the codes of all others
+pub record Scans (marks : Bool) (want : ℕ) (m : List ℕ) (set : List ℕ) (r : Scanned) (set′ : List ℕ) : Type 0 where
+  pub is : r ≡ scanIn marks want (readMessage m)
+  pub codes : marks ≡ true → want ≡ 52 → (os : List Opt) → readMessage m ≡ accepted os → set′ ≡ othersIn set os

@@ -1,18 +1,18 @@
 // One walk over a whole message (document 01, The message and its fields): the length and the cookie, then options, file and sname.
 ghost use mathlib.Core.Path.{_≡_};
-ghost use mathlib.Core.Bool.{cond};
-ghost use Prim.Native.Nat.{_+_, _≤_};
+ghost use mathlib.Core.Bool.{Bool, true, cond, not};
+ghost use Prim.Native.Nat.{_+_, _-_, _<_, _≤_};
 ghost use lib.Dec.{eqb};
 ghost use lib.ListN.{length, take, drop};
 ghost use Rattle.options.specs.Message.{start, bytes, cookie};
-ghost use Rattle.options.specs.Reading.{same, fileIn, snameIn};
+ghost use Rattle.options.specs.Reading.{same, parse, right52, fileIn, snameIn};
+ghost use Rattle.options.specs.CodeSet.{marked};
 ghost use Rattle.message.specs.Fields.{fieldOf};
-ghost use Rattle.message.specs.Origins.{originOf, originAt};
 ghost use Rattle.message.specs.Active.{activeIn};
 ghost use Rattle.message.specs.Part.{partAt};
-ghost use Rattle.message.specs.Scan.{stopAt, scanOf, Scans};
-ghost use Rattle.message.specs.Walking.{unfitOf, firstOf, onTop, walkIf, fieldsOf, Goes, Gives};
-use wire::Walked;
+ghost use Rattle.message.specs.Scan.{refusedAt, scanOf, Surveys};
+ghost use Rattle.message.specs.Walk.{tallied, setAfter, pastStop, pastSet, Passes, overStop, overAfter, keptAfter, stoppedAt, endedAt, Lasts, lastOf, Few, Walks};
+ghost use Rattle.message.specs.Walking.{unfitOf, afterFile, afterOptions, nextField, numberOf, scannedOf, Gives, Scans};
 
 pub enum Field {
     Options,
@@ -28,40 +28,6 @@ pub fn base(field: Field) -> usize
         Field::Options => 240,
         Field::File => 108,
         Field::Sname => 44,
-    }
-}
-
-// Where an option stands (document 02, request 01): the field that holds its code byte, and that byte's offset in it.
-pub struct Origin {
-    pub field: Field,
-    pub offset: usize,
-}
-
-// The origin of an option whose code byte stands at a place of the message. The fields lie apart, so the place tells the field.
-pub fn origin_at(place: usize) -> Origin
-    ensures { λ r. ⌜ originOf r ≡ originAt place ⌝ }
-{
-    if 240 <= place {
-        return Origin {
-            field: Field::Options,
-            offset: place - 240,
-        };
-    }
-    if 108 <= place {
-        return Origin {
-            field: Field::File,
-            offset: place - 108,
-        };
-    }
-    if place < 44 {
-        return Origin {
-            field: Field::Sname,
-            offset: 0,
-        };
-    }
-    Origin {
-        field: Field::Sname,
-        offset: place - 44,
     }
 }
 
@@ -134,63 +100,331 @@ pub fn sname_on(v: u32) -> bool
     v == 2 || v == 3
 }
 
-// A refusal: nothing is told of what was met before it. With number 0: nothing met yet.
-fn stop(number: u32, place: usize) -> Walked
-    ensures { λ r. ⌜ r ≡ stopAt number place ⌝ }
+// What is kept of the options met: of those with the wanted code, where the data of the first start in the message (0: none), where the code byte of the last
+// stands, and how many bytes of data all have; and the value of option 52 (0: not met).
+pub struct Kept {
+    pub start: usize,
+    pub last: usize,
+    pub whole: usize,
+    pub over: u32,
+}
+
+// A walk: what is kept; how many bytes the options take in their fields and how many they are, where they are marked (else 0); how it ended (0: END; 1: no
+// more bytes; 2: an option runs past its field; 3: an option 52 that is refused; 4: a second one), and at which place of the message.
+pub struct Walked {
+    pub kept: Kept,
+    pub used: usize,
+    pub count: usize,
+    pub place: usize,
+    pub end: u32,
+}
+
+// Where `pass` stops, how many options it has passed where they are marked, and whether a watched code stands there.
+pub struct Stop {
+    pub at: usize,
+    pub count: usize,
+    pub watched: bool,
+}
+
+// What is counted only where options are marked.
+fn tally(marks: bool, n: usize) -> usize
+    ensures { λ r. ⌜ r ≡ tallied marks n ⌝ }
 {
-    Walked {
-        start: 0,
-        used: 0,
-        place,
-        over: 0,
-        number,
+    if marks { n } else { 0 }
+}
+
+fn watches(watched: &[u64; 4], c: u8) -> bool
+    ensures { λ r. ⌜ r ≡ marked (now (watched .entry)) c ⌝ }
+{
+    let x = watched[codeset::word(c)];
+    (x >> (c % 64)) % 2 == 1
+}
+
+// Puts a code into the set and counts it, where options are marked.
+fn mark_if(marks: bool, set: &mut [u64; 4], c: u8, count: usize) -> usize
+    requires { ⌜ count ≤ 65536 ⌝ }
+    ensures { λ r. ⌜ (r ≡ count + tallied marks 1) × (now (set .exit) ≡ setAfter marks (now (set .entry)) c) ⌝ }
+{
+    if !marks {
+        return count;
+    }
+    let k = codeset::word(c);
+    set[k] = set[k] | (1u64 << (c % 64));
+    count + 1
+}
+
+// Passes over the options whose codes are not watched. The last byte of a field holds no whole option, so it is not looked at.
+fn pass(
+    watched: &[u64; 4],
+    marks: bool,
+    set: &mut [u64; 4],
+    f: &[u8],
+    end: usize,
+    from: usize,
+) -> Stop
+    requires { ⌜ (from ≤ length (now f)) × (length (now f) ≤ 65536) × (end ≡ length (now f) - 1) × (marked (now watched) 0 ≡ true) × (marked (now watched) 255 ≡ true) ⌝ }
+    ensures { λ r. ⌜ Passes (now (watched .entry)) marks (now (f .entry)) from (now (set .entry)) r (now (set .exit)) ⌝ }
+{
+    let mut i = from;
+    let mut count: usize = 0;
+    while i < end {
+        let c = f[i];
+        if watches(watched, c) {
+            return Stop {
+                at: i,
+                count,
+                watched: true,
+            };
+        }
+        let e = i + 2 + num::wide(f[i + 1]);
+        // Only an option that ends before the last byte leaves room for another.
+        if end <= e {
+            return past(marks, set, f, i, e, c, count);
+        }
+        count = mark_if(marks, set, c, count);
+        i = e;
+    }
+    Stop {
+        at: i,
+        count,
+        watched: false,
     }
 }
 
-// The first value that is not 0.
-fn first_of(a: u32, b: u32) -> u32
-    ensures { λ r. ⌜ r ≡ firstOf a b ⌝ }
+// Where passing over stops at an option that no other can follow: at the option, if it runs past the field; else it is passed over too. The option begins at
+// i, and next is the first offset after it.
+fn past(
+    marks: bool,
+    set: &mut [u64; 4],
+    f: &[u8],
+    i: usize,
+    next: usize,
+    c: u8,
+    count: usize,
+) -> Stop
+    requires { ⌜ count ≤ 65536 ⌝ }
+    ensures { λ r. ⌜ (r ≡ pastStop marks (now (f .entry)) i next count) × (now (set .exit) ≡ pastSet marks (now (f .entry)) next (now (set .entry)) c) ⌝ }
 {
-    if a == 0 { b } else { a }
-}
-
-// The walk of one more field, whose first byte is at base, on top of the fields before.
-fn on_top(base: usize, w: Walked, a: Walked) -> Walked
-    requires { ⌜ (base ≤ 240) × (w .start ≤ 65536) × (w .used ≤ 65536) × (w .place ≤ 65536) × (a .used ≤ 262144) ⌝ }
-    ensures { λ r. ⌜ r ≡ onTop base w a ⌝ }
-{
-    if w.number != 0 {
-        return stop(w.number, base + w.place);
-    }
-    let used = a.used + w.used;
-    let over = first_of(a.over, w.over);
-    if w.start == 0 {
-        return Walked {
-            start: a.start,
-            used,
-            place: 0,
-            over,
-            number: 0,
+    if f.len() < next {
+        return Stop {
+            at: i,
+            count,
+            watched: false,
         };
     }
-    Walked {
-        start: base + w.start,
-        used,
-        place: 0,
-        over,
-        number: 0,
+    let n = mark_if(marks, set, c, count);
+    Stop {
+        at: next,
+        count: n,
+        watched: false,
     }
 }
 
-// Walks file or sname, where it is active.
-fn walk_if(on: bool, f: &[u8], want: u8, seen: &mut [u64; 4]) -> Walked
-    requires { ⌜ length (now f) ≤ 65536 ⌝ }
-    ensures { λ r. ⌜ Goes (walkIf on want (now (seen .entry)) (now (f .entry))) r (now (seen .exit)) ⌝ }
+// The first offset where no pad stands.
+fn after_pads(f: &[u8], from: usize) -> usize
+    requires { ⌜ from ≤ length (now f) ⌝ }
+    ensures { λ r. ⌜ (from ≤ r) × (r ≤ length (now (f .entry))) × (parse r 0 (drop r (now (f .entry))) ≡ parse from 0 (drop from (now (f .entry)))) ⌝ }
 {
-    if !on {
-        return stop(0, 0);
+    let mut i = from;
+    while i < f.len() {
+        if f[i] != 0 {
+            return i;
+        }
+        i = i + 1;
     }
-    wire::walk(false, f, want, seen)
+    i
+}
+
+// Whether a walk ends at an option with this code and data: 3 or 4, or 0 where it goes on; over: the value of the option 52 before. The order of the tests is
+// the one with the fewest instructions.
+fn over_stop(options: bool, over: u32, c: u8, d: &[u8]) -> u32
+    ensures { λ r. ⌜ r ≡ overStop options over c (now (d .entry)) ⌝ }
+{
+    if c != 52 {
+        return 0;
+    }
+    if over != 0 {
+        if over_wrong(options, d) {
+            return 3;
+        }
+        return 4; // A second one.
+    }
+    if over_wrong(options, d) {
+        return 3;
+    }
+    0
+}
+
+// Whether an option 52 with these data is refused where it stands.
+fn over_wrong(options: bool, d: &[u8]) -> bool
+    ensures { λ r. ⌜ r ≡ cond options (not (right52 (now (d .entry)))) true ⌝ }
+{
+    if !options {
+        return true;
+    }
+    if d.len() != 1 {
+        return true;
+    }
+    let v = d[0];
+    if v == 0 {
+        return true;
+    }
+    3 < v
+}
+
+fn byte32(x: u8) -> u32
+    ensures { λ r. ⌜ r ≡ x ⌝ }
+{
+    x as u32
+}
+
+// The value of option 52 after an option with this code and data; the first one stands.
+fn over_after(over: u32, c: u8, d: &[u8]) -> u32
+    ensures { λ r. ⌜ r ≡ overAfter over c (now (d .entry)) ⌝ }
+{
+    if c != 52 {
+        return over;
+    }
+    if over != 0 {
+        return over;
+    }
+    if d.len() == 0 {
+        return 0;
+    }
+    byte32(d[0])
+}
+
+// What is kept after a watched option with this code and data, whose code byte stands at the offset i of the field that begins at base. Of the first piece it
+// is the data's start, of the last the code byte: with a place of one kind for both the compiler would make all of this also where another code is met.
+fn kept_after(want: u8, k: Kept, c: u8, base: usize, i: usize, d: &[u8]) -> Kept
+    requires { ⌜ (k .whole ≤ 4294967296) × (length (now d) ≤ 65536) × (base ≤ 240) × (i ≤ 65536) ⌝ }
+    ensures { λ r. ⌜ r ≡ keptAfter want k c base i (now (d .entry)) ⌝ }
+{
+    let over = over_after(k.over, c, d);
+    if want != c {
+        return Kept {
+            start: k.start,
+            last: k.last,
+            whole: k.whole,
+            over,
+        };
+    }
+    let last = base + i;
+    let whole = k.whole + d.len();
+    if k.start != 0 {
+        return Kept {
+            start: k.start,
+            last,
+            whole,
+            over,
+        };
+    }
+    Kept {
+        start: last + 2,
+        last,
+        whole,
+        over,
+    }
+}
+
+// A walk that is refused: nothing is told of what was met before. With 0: nothing met yet.
+fn stopped(end: u32, place: usize) -> Walked
+    ensures { λ r. ⌜ r ≡ stoppedAt end place ⌝ }
+{
+    Walked {
+        kept: Kept {
+            start: 0,
+            last: 0,
+            whole: 0,
+            over: 0,
+        },
+        used: 0,
+        count: 0,
+        place,
+        end,
+    }
+}
+
+fn ended(end: u32, place: usize, used: usize, count: usize, kept: Kept) -> Walked
+    ensures { λ r. ⌜ r ≡ endedAt end place used count kept ⌝ }
+{
+    Walked {
+        kept,
+        used,
+        count,
+        place,
+        end,
+    }
+}
+
+// How a walk ends where no watched option is left, at an offset of a field.
+fn last(f: &[u8], i: usize, base: usize, used: usize, count: usize, kept: Kept) -> Walked
+    requires { ⌜ (i ≤ length (now f)) × (length (now f) ≤ 65536) × (base ≤ 240) × Lasts (now f) i ⌝ }
+    ensures { λ r. ⌜ r ≡ lastOf base used count kept (parse i 0 (drop i (now (f .entry)))) ⌝ }
+{
+    if f.len() <= i {
+        return ended(1, base + i, used, count, kept);
+    }
+    let c = f[i];
+    if c == 255 {
+        return ended(0, 0, used, count, kept);
+    }
+    if c == 0 {
+        return ended(1, base + (i + 1), used, count, kept);
+    }
+    stopped(2, base + i)
+}
+
+// Walks one field, whose first byte is at base, on top of the fields before. Of every option only those are looked at that are watched: pads, END, option
+// 52 and the wanted code.
+fn walk(
+    watched: &[u64; 4],
+    marks: bool,
+    set: &mut [u64; 4],
+    options: bool,
+    want: u8,
+    base: usize,
+    f: &[u8],
+    s: Walked,
+) -> Walked
+    requires { ⌜ (0 < length (now f)) × (length (now f) ≤ 65536) × (base ≤ 240) × (marked (now watched) 0 ≡ true) × (marked (now watched) 255 ≡ true) × Few 1000000 s ⌝ }
+    ensures { λ r. ⌜ Walks (now (watched .entry)) marks options want base (now (f .entry)) s (now (set .entry)) r (now (set .exit)) ⌝ }
+{
+    let mut k = s.kept;
+    let mut count = s.count;
+    let mut pads: usize = 0;
+    let mut i: usize = 0;
+    let end = f.len() - 1;
+    loop {
+        let p = pass(watched, marks, set, f, end, i);
+        i = p.at;
+        count = count + p.count;
+        if !p.watched {
+            return last(f, i, base, s.used + (i - pads), count, k);
+        }
+        let c = f[i];
+        if c == 0 {
+            let j = after_pads(f, i + 1);
+            pads = pads + (j - i);
+            i = j;
+        } else {
+            if c == 255 {
+                return ended(0, 0, s.used + (i - pads), count, k);
+            }
+            let j = i + 2;
+            let e = j + num::wide(f[i + 1]);
+            if f.len() < e {
+                return stopped(2, base + i);
+            }
+            let t = over_stop(options, k.over, c, &f[j..e]);
+            if t != 0 {
+                return stopped(t, base + i);
+            }
+            k = kept_after(want, k, c, base, i, &f[j..e]);
+            count = count + 1;
+            i = e;
+        }
+    }
 }
 
 // The number of the refusal of a message's length or cookie, or 0.
@@ -219,48 +453,173 @@ fn unfit_place(m: &[u8], number: u32) -> usize
     m.len()
 }
 
-// Walks the fields of a message whose length is right: options, and file and sname where option 52 makes them active.
-fn fields(m: &[u8], want: u8, seen: &mut [u64; 4]) -> Walked
-    requires { ⌜ (240 ≤ length (now m)) × (length (now m) ≤ 1472) ⌝ }
-    ensures { λ r. ⌜ Gives (fieldsOf want (now (m .entry)) (now (seen .entry))) r (now (seen .exit)) ⌝ }
+// The field that is read after another, by the value of option 52: 0 options, 1 file, 2 sname, 3 none.
+fn after_file(over: u32) -> usize
+    ensures { λ r. ⌜ r ≡ afterFile over ⌝ }
 {
-    let a = on_top(240, wire::walk(true, &m[240..], want, seen), stop(0, 0));
-    let v = a.over;
-    if v == 0 {
-        return a;
-    }
-    let b = on_top(108, walk_if(file_on(v), &m[108..236], want, seen), a);
-    if b.number != 0 {
-        return b;
-    }
-    on_top(44, walk_if(sname_on(v), &m[44..108], want, seen), b)
+    if sname_on(over) { 2 } else { 3 }
 }
 
-// Walks the message once: what is kept of its options, the code wanted among them, or the refusal. The lent set becomes that of its codes; a refusal
-// leaves it empty.
-pub fn scan(m: &[u8], want: u8, seen: &mut [u64; 4]) -> Walked
-    ensures { λ r. ⌜ Scans want (now (m .entry)) r (now (seen .exit)) ⌝ }
+fn after_options(over: u32) -> usize
+    ensures { λ r. ⌜ r ≡ afterOptions over ⌝ }
+{
+    if file_on(over) {
+        return 1;
+    }
+    after_file(over)
+}
+
+fn next_field(turn: usize, over: u32) -> usize
+    ensures { λ r. ⌜ r ≡ nextField turn over ⌝ }
+{
+    if over == 0 {
+        return 3;
+    }
+    if turn == 0 {
+        return after_options(over);
+    }
+    if turn == 1 {
+        return after_file(over);
+    }
+    3
+}
+
+// Walks the fields one after another: options, and file and sname where option 52 makes them active. The walk is called at one place, so that it is compiled
+// into this function.
+fn fields(watched: &[u64; 4], marks: bool, set: &mut [u64; 4], want: u8, m: &[u8]) -> Walked
+    requires { ⌜ (240 < length (now m)) × (length (now m) ≤ 1472) × (marked (now watched) 0 ≡ true) × (marked (now watched) 255 ≡ true) ⌝ }
+    ensures { λ r. ⌜ Gives (now (watched .entry)) marks want (now (m .entry)) (now (set .entry)) r (now (set .exit)) ⌝ }
+{
+    let mut s = stopped(0, 0);
+    let mut turn: usize = 0;
+    let mut from: usize = 240;
+    let mut to: usize = m.len();
+    loop {
+        s = walk(watched, marks, set, turn == 0, want, from, &m[from..to], s);
+        if s.end != 0 {
+            return s;
+        }
+        turn = next_field(turn, s.kept.over);
+        if turn == 3 {
+            return s;
+        }
+        if turn == 1 {
+            from = 108;
+            to = 236;
+        } else {
+            from = 44;
+            to = 108;
+        }
+    }
+}
+
+// What a walk over a message tells: where the data of the first piece of the wanted code start (0: none), where the code byte of the last stands, and the bytes
+// of all its pieces; the value of option 52 (0: none); number and place of a refusal (0: none). Where codes are marked: the bytes that all options take in
+// their fields, and how many options there are; else 0.
+pub struct Scanned {
+    pub start: usize,
+    pub last: usize,
+    pub whole: usize,
+    pub used: usize,
+    pub count: usize,
+    pub place: usize,
+    pub over: u32,
+    pub number: u32,
+}
+
+// A refusal: nothing is told of what was met before it.
+fn refused(number: u32, place: usize) -> Scanned
+    ensures { λ r. ⌜ r ≡ refusedAt number place ⌝ }
+{
+    Scanned {
+        start: 0,
+        last: 0,
+        whole: 0,
+        used: 0,
+        count: 0,
+        place,
+        over: 0,
+        number,
+    }
+}
+
+// The number of the refusal that the end of a walk is.
+fn number_of(end: u32) -> u32
+    ensures { λ r. ⌜ r ≡ numberOf end ⌝ }
+{
+    if end == 1 {
+        return 5;
+    }
+    if end == 2 {
+        return 4;
+    }
+    if end == 3 {
+        return 6;
+    }
+    7
+}
+
+// What is counted is told only where options are marked: so a walk that marks none does not count.
+fn told(marks: bool, s: Walked) -> Scanned
+    ensures { λ r. ⌜ r ≡ scannedOf marks s ⌝ }
+{
+    if s.end != 0 {
+        return refused(number_of(s.end), s.place);
+    }
+    let k = s.kept;
+    Scanned {
+        start: k.start,
+        last: k.last,
+        whole: k.whole,
+        used: tally(marks, s.used),
+        count: tally(marks, s.count),
+        place: 0,
+        over: k.over,
+        number: 0,
+    }
+}
+
+// Walks the message once. `marks`: every code is put into the set.
+fn scan(m: &[u8], want: u8, marks: bool, set: &mut [u64; 4]) -> Scanned
+    ensures { λ r. ⌜ Scans marks want (now (m .entry)) (now (set .entry)) r (now (set .exit)) ⌝ }
 {
     let number = unfit(m);
     if number != 0 {
-        *seen = [0; 4];
-        return stop(number, unfit_place(m, number));
+        return refused(number, unfit_place(m, number));
     }
-    *seen = wire::NO_CODES;
-    let r = fields(m, want, seen);
-    if r.number != 0 {
-        *seen = [0; 4];
-        return r;
+    // A walk looks at a field of one byte or more.
+    if m.len() == 240 {
+        return refused(5, 240);
     }
-    seen[0] = seen[0] - 1;
-    seen[3] = seen[3] - 9223372036854775808;
-    r
+    // Pads, END and option 52, and the code that is wanted.
+    let mut watched = [4503599627370497, 0, 0, 9223372036854775808];
+    let k = codeset::word(want);
+    watched[k] = watched[k] | (1u64 << (want % 64));
+    told(marks, fields(&watched, marks, set, want, m))
 }
 
-// The same for a caller that needs no set of codes.
-pub fn find(m: &[u8], want: u8) -> Walked
+// Looks for the pieces of a code: the message is walked once.
+pub fn find(m: &[u8], want: u8) -> Scanned
     ensures { λ r. ⌜ r ≡ scanOf want (now (m .entry)) ⌝ }
 {
-    let mut seen = [0; 4];
-    scan(m, want, &mut seen)
+    let mut set = [0; 4];
+    scan(m, want, false, &mut set)
+}
+
+// The codes of a message, and the size and number of its options: the message is walked once. The lent set becomes that of its codes; a refusal leaves it
+// empty.
+pub fn codes(m: &[u8], set: &mut [u64; 4]) -> Scanned
+    ensures { λ r. ⌜ Surveys (now (m .entry)) r (now (set .exit)) ⌝ }
+{
+    *set = [0; 4];
+    let s = scan(m, 52, true, set);
+    if s.number != 0 {
+        *set = [0; 4];
+        return s;
+    }
+    // Option 52 is watched, and so not marked.
+    if s.start != 0 {
+        codeset::mark(set, 52);
+    }
+    s
 }

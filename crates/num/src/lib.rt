@@ -36,6 +36,10 @@ pub fn be32(a: u8, b: u8, c: u8, d: u8) -> u32
 pub fn first16(d: &[u8]) -> u16
     ensures { λ r. ⌜ r ≡ first16 (now (d .entry)) ⌝ }
 {
+    // One test for both bytes.
+    if 2 <= d.len() {
+        return be16(d[0], d[1]);
+    }
     be16(byte(d, 0), byte(d, 1))
 }
 
@@ -43,6 +47,10 @@ pub fn first16(d: &[u8]) -> u16
 pub fn first32(d: &[u8]) -> u32
     ensures { λ r. ⌜ r ≡ first32 (now (d .entry)) ⌝ }
 {
+    // The compiler makes one load of this.
+    if 4 <= d.len() {
+        return be32(d[0], d[1], d[2], d[3]);
+    }
     be32(byte(d, 0), byte(d, 1), byte(d, 2), byte(d, 3))
 }
 

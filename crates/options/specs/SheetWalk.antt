@@ -48,10 +48,10 @@ unfoldable pub recordsLeft : List ℕ → ℕ → List Rec
 unfolding recordsFrom recordsOf
 recordsLeft s at = recordsOf (recordsFrom at 0 (drop at s))
 
--- no record has more than 255 bytes of data
+-- no record has more than 1,024 bytes of data
 abbrev pub AllShort : List Rec → Type 0
 AllShort [] = Unit {0}
-AllShort (r ∷ rs) = (length (r .body) ≤ 255) × AllShort rs
+AllShort (r ∷ rs) = (length (r .body) ≤ 1024) × AllShort rs
 
 -- from a place on the sheet is records that can be written, to its end: so it is in an accepted one, at the place of a record
 pub record Whole (s : List ℕ) (at : ℕ) : Type 0 where

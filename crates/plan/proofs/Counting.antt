@@ -1,88 +1,154 @@
--- Records counted, one after the other, while a field takes them. All that is used of a sheet is `recordsLeft`, and three laws of it: `none-left`
--- and `whole-left` (SheetSteps), and `turn`. Assumes nothing.
+-- Pieces counted, one after the other, while a field takes them. Assumes nothing.
 use mathlib.Core.Path.{_≡_, refl, sym, ap, _∙_, subst}
-use mathlib.Core.List.{List, _∷_}
-use Prim.Native.Nat.{ℕ, _+_, _-_, _<_, _≤_}
+use mathlib.Core.List.{List, [], _∷_}
+use mathlib.Core.Bool.{Bool, true, false, cond}
+use Prim.Native.Nat.{ℕ, _+_, _-_, _*_, _<_, _≤_}
 use native.Mathlib.Omega.{arith}
-use lib.ListN.{length, getD, take, drop}
-use borrow.Author.Tests.{lt-ltb, le-ltb}
+use lib.ListN.{length, getD, take, drop, length-append}
+use lib.Dec.{ltb}
+use borrow.Author.Tests.{lt-ltb, le-ltb, ltb-true, ltb-false}
 use Rattle.options.specs.Message.{Rec}
 use Rattle.options.specs.SheetWalk.{recordsLeft, Whole}
-use Rattle.options.specs.Writing.{size, fits}
+use Rattle.options.specs.Writing.{size, optionBytes, fits, piecesLeft, Inside, Between, pieceSize}
+use Rattle.theorems.proofs.View.{clash}
 use Rattle.writing_theorems.proofs.SheetSteps.{sizeAt, recordHere, Next, next-left, none-left}
-use Rattle.plan.specs.Steps.{sizes, leftOver, From}
+use Rattle.writing_theorems.proofs.PieceSteps.{no-pieces-left, done-within, Piece, last-of-record, piece-here}
+use Rattle.sheet.specs.Judge.{allSingle, singleTo}
+use Rattle.plan.specs.Steps.{sizes, leftOver, From, Single}
+use Rattle.plan.specs.Pieces.{sizeOf, pieceOf}
+use Rattle.plan.specs.declared.Piece as code
 
--- ---- The next record; z is what its option takes
+-- the option of one piece, and those behind it
+pub sizes-more : (r : Rec) (rs : List Rec) → sizes (r ∷ rs) ≡ size r + sizes rs
+unfolding optionBytes
+sizes-more r rs = omega (arith, length-append (r .body) (optionBytes rs))
 
-pub record Turn (s : List ℕ) (at z : ℕ) : Type 0 where
-  pub here : Rec
-  pub first : recordsLeft s at ≡ here ∷ recordsLeft s (at + (z + 1))
-  pub whole : Whole s (at + (z + 1))
-  pub sized : size here ≡ z
-  pub least : 2 ≤ z
-  pub most : z ≤ 257
-  pub within : at + (z + 1) ≤ length s
-  -- its tag and its data, where they stand
-  pub tag-is : getD s at 0 ≡ here .tag
-  pub body-is : take (at + (z + 1) - (at + 3)) (drop (at + 3) s) ≡ here .body
+-- ---- The next piece
 
-pub turn : (s : List ℕ) (at : ℕ) → Whole s at → at < length s → (k : ℕ) → k ≡ getD s (at + 2) 0 → Turn s at (k + 2)
-turn s at w l k e =
-    let x : Next s at = next-left s at w l in
-    let n : sizeAt s at ≡ k = x .low ∙ sym e in
+pub of-last : (n done k : ℕ) → n - done ≤ 255 → k ≡ n - done → record { size = k; ahead = 3 + n; done = 0 } ≡ pieceOf n done
+of-last n done k h e = rw (le-ltb 255 (n - done) h, e)
+
+pub of-more : (n done : ℕ) → 255 < n - done → record { size = 255; ahead = 0; done = done + 255 } ≡ pieceOf n done
+of-more n done h = rw (lt-ltb 255 (n - done) h)
+
+-- the head of its record is whole
+pub head-at : (s : List ℕ) (at done : ℕ) → Between s at done → at < length s → at + 2 < length s
+head-at s at done b l = omega (arith, next-left s at (b .whole) l .within)
+
+-- as the code has it
+pub piece-at : (s : List ℕ) (at done : ℕ) (x : code.Piece) → Between s at done → at < length s → x ≡ pieceOf (sizeOf s at) done
+    → Piece s at done (x .size) (at + x .ahead) (x .done)
+piece-at s at done x b l e = rw e (go (ltb 255 (sizeAt s at - done)) (piece-here s at done b l))
+  where
+    go : (u : Bool) → Piece s at done (cond u 255 (sizeAt s at - done)) (cond u at (at + 3 + sizeAt s at)) (cond u (done + 255) 0)
+        → Piece s at done (cond u 255 (sizeAt s at - done)) (at + cond u 0 (3 + sizeAt s at)) (cond u (done + 255) 0)
+    go true p = let z : at ≡ at + 0 = omega arith in subst (λ (k : ℕ). Piece s at done 255 k (done + 255)) z p
+    go false p = let z : at + 3 + sizeAt s at ≡ at + (3 + sizeAt s at) = omega arith in subst (λ (k : ℕ). Piece s at done (sizeAt s at - done) k 0) z p
+
+-- a whole record, with k bytes of data
+pub record Turn (s : List ℕ) (single at done k : ℕ) : Type 0 where
+  pub piece : Piece s at done k (at + (k + 2 + 1)) done
+  pub within : at + (k + 2 + 1) ≤ length s
+  pub none-done : done ≡ 0
+  pub singles : Single s single (at + (k + 2 + 1)) done
+
+one-piece : (n : ℕ) (b : Bool) → cond (ltb 255 n) false b ≡ true → (n ≤ 255) × (b ≡ true)
+one-piece n b e = go (ltb 255 n) refl e
+  where
+    go : (u : Bool) → ltb 255 n ≡ u → cond u false b ≡ true → (n ≤ 255) × (b ≡ true)
+    go true q z = clash (cc)
+    go false q z = (ltb-false 255 n q, z)
+
+pub turn : (s : List ℕ) (single at done : ℕ) → Between s at done → Single s single at done → at < single → (k : ℕ) → k ≡ getD s (at + 2) 0 → Turn s single at done k
+turn s single at done b q l k e =
+    let p = q (omega arith) in
+    let h : at < length s = omega (arith, p .0) in
+    let x : Next s at = next-left s at (b .whole) h in
+    let o = one-piece (length (recordHere s at .body)) (allSingle (recordsLeft s (at + 3 + sizeAt s at))) (sym (ap allSingle (x .first)) ∙ p .2) in
+    let n : sizeAt s at ≡ k = omega (arith, e, x .body-long, o .0) in
+    let d : 0 ≡ done = sym (p .1) in
     let j : at + 3 + sizeAt s at ≡ at + (k + 2 + 1) = omega (arith, n) in
-    let i : at + (k + 2 + 1) - (at + 3) ≡ sizeAt s at = omega (arith, n) in
+    let i : sizeAt s at - done ≡ k = omega (arith, n, d) in
+    let last : Piece s at done (sizeAt s at - done) (at + 3 + sizeAt s at) 0 = last-of-record s at done b h (omega (arith, o .0, x .body-long)) in
+    let sized : Piece s at done k (at + 3 + sizeAt s at) 0 = subst (λ (u : ℕ). Piece s at done u (at + 3 + sizeAt s at) 0) i last in
+    let placed : Piece s at done k (at + (k + 2 + 1)) 0 = subst (λ (u : ℕ). Piece s at done k u 0) j sized in
     record {
-      here = recordHere s at;
-      first = x .first ∙ ap (λ (p : ℕ). recordHere s at ∷ recordsLeft s p) j;
-      whole = subst (Whole s) j (x .whole);
-      sized = omega (arith, x .body-long, n);
-      least = omega arith;
-      most = omega (arith, x .few, n);
+      piece = subst (λ (u : ℕ). Piece s at done k (at + (k + 2 + 1)) u) d placed;
       within = omega (arith, x .within, n);
-      tag-is = refl;
-      body-is = ap (λ (p : ℕ). take p (drop (at + 3) s)) i;
+      none-done = p .1;
+      singles = λ z. (p .0, p .1, subst (λ (u : ℕ). allSingle (recordsLeft s u) ≡ true) j (o .1));
     }
 
--- ---- One record more, and none more
+-- ---- One piece more, and none more
 
 over-more : (n : ℕ) (r : Rec) (rs : List Rec) → size r < n → leftOver n (r ∷ rs) ≡ leftOver (n - size r) rs
 unfolding fits
 over-more n r rs h = rw (lt-ltb (size r) n h)
 
-pub at-end : (n : ℕ) (s : List ℕ) (at : ℕ) → length s ≤ at → fits n (recordsLeft s at) ≡ 0
+pub at-end : (n : ℕ) (s : List ℕ) (at done : ℕ) → length s ≤ at → fits n (piecesLeft s at done) ≡ 0
 unfolding fits
-at-end n s at h = ap (fits n) (none-left s at h)
+at-end n s at done h = ap (fits n) (no-pieces-left s at done h)
 
-pub no-room : (n : ℕ) (s : List ℕ) (at z : ℕ) → Turn s at z → n ≤ z → fits n (recordsLeft s at) ≡ 0
+pub no-room : (n : ℕ) (s : List ℕ) (at done k to then : ℕ) → Piece s at done k to then → n ≤ k + 2 → fits n (piecesLeft s at done) ≡ 0
 unfolding fits
-no-room n s at z x h = ap (fits n) (x .first) ∙ rw (le-ltb (size (x .here)) n (omega (arith, x .sized)))
+no-room n s at done k to then x h = ap (fits n) (x .first) ∙ rw (le-ltb (size (x .here)) n (omega (arith, x .sized)))
 
 -- ---- The loop: what is left of the sheet, for the bytes that are left of the room, is what the whole room leaves
 
-pub record Counting (room : ℕ) (s : List ℕ) (from at left : ℕ) : Type 0 where
-  pub whole : Whole s at
+pub record Counting (room : ℕ) (s : List ℕ) (from inside at done left : ℕ) : Type 0 where
+  pub between : Between s at done
   pub within : left ≤ room
-  pub rest : leftOver left (recordsLeft s at) ≡ leftOver room (recordsLeft s from)
-  pub sum : room - left + sizes (recordsLeft s at) ≡ sizes (recordsLeft s from)
+  pub rest : leftOver left (piecesLeft s at done) ≡ leftOver room (piecesLeft s from inside)
+  pub sum : room - left + sizes (piecesLeft s at done) ≡ sizes (piecesLeft s from inside)
 
-pub counting-none : (room : ℕ) (s : List ℕ) (from : ℕ) → Whole s from → Counting room s from from room
-counting-none room s from w = record { whole = w; within = omega arith; rest = refl; sum = omega arith }
+pub counting-none : (room : ℕ) (s : List ℕ) (from inside : ℕ) → Between s from inside → Counting room s from inside from inside room
+counting-none room s from inside w = record { between = w; within = omega arith; rest = refl; sum = omega arith }
 
-pub counting-more : (room : ℕ) (s : List ℕ) (from at left z : ℕ) → Counting room s from at left → Turn s at z → z < left → Counting room s from (at + (z + 1)) (left - z)
-unfolding sizes
-counting-more room s from at left z f x h =
-    let next : List Rec = recordsLeft s (at + (z + 1)) in
-    let o : leftOver left (recordsLeft s at) ≡ leftOver (left - z) next =
-    ap (leftOver left) (x .first) ∙ over-more left (x .here) next (omega (arith, x .sized)) ∙ ap (λ (k : ℕ). leftOver (left - k) next) (x .sized) in
-    let u : sizes (recordsLeft s at) ≡ size (x .here) + sizes next = ap sizes (x .first) in
+pub counting-more : (room : ℕ) (s : List ℕ) (from inside at done left k to then : ℕ) → Counting room s from inside at done left → Piece s at done k to then → k + 2 < left
+    → Counting room s from inside to then (left - (k + 2))
+counting-more room s from inside at done left k to then f x h =
+    let next : List Rec = piecesLeft s to then in
+    let z : size (x .here) ≡ k + 2 = omega (arith, x .sized) in
+    let o : leftOver left (piecesLeft s at done) ≡ leftOver (left - (k + 2)) next =
+    ap (leftOver left) (x .first) ∙ over-more left (x .here) next (omega (arith, x .sized)) ∙ ap (λ (j : ℕ). leftOver (left - j) next) z in
+    let u : sizes (piecesLeft s at done) ≡ size (x .here) + sizes next = ap sizes (x .first) ∙ sizes-more (x .here) next in
     record {
-      whole = x .whole;
+      between = x .between;
       within = omega (arith, f .within);
       rest = sym o ∙ f .rest;
       sum = omega (arith, u, x .sized, f .sum, f .within, h);
     }
 
--- once no more goes in, the place is that of the records left over
-pub counted : (room : ℕ) (s : List ℕ) (from at left : ℕ) → Counting room s from at left → fits left (recordsLeft s at) ≡ 0 → From s (leftOver room (recordsLeft s from)) at
-counted room s from at left f z = record { records = ap (λ (k : ℕ). drop k (recordsLeft s at)) (sym z) ∙ f .rest; whole = f .whole }
+-- once no more goes in, the place is that of the pieces left over
+pub counted : (room : ℕ) (s : List ℕ) (from inside at done left : ℕ) → Counting room s from inside at done left → fits left (piecesLeft s at done) ≡ 0
+    → From s (leftOver room (piecesLeft s from inside)) at done
+counted room s from inside at done left f z = record { pieces = ap (λ (k : ℕ). drop k (piecesLeft s at done)) (sym z) ∙ f .rest; between = f .between }
+
+-- ---- The sheet's end
+
+-- no piece is left only there
+pub ended : (s : List ℕ) (at done : ℕ) → From s [] at done → (length s ≤ at) × (done ≡ 0)
+ended s at done f = go (ltb at (length s)) refl
+  where
+    go : (b : Bool) → ltb at (length s) ≡ b → (length s ≤ at) × (done ≡ 0)
+    go true q = clash (let e = sym (f .pieces) ∙ piece-here s at done (f .between) (ltb-true at (length s) q) .first in cc)
+    go false q =
+        let h : length s ≤ at = ltb-false at (length s) q in
+        (h, subst (Inside done) (none-left s at h) (f .between .inside))
+
+-- what was left over there begins there
+pub still-single : (n : ℕ) (s : List ℕ) (single at done to then : ℕ) → single ≤ at → Single s single at done → From s (leftOver n (piecesLeft s at done)) to then → Single s single to then
+unfolding fits
+still-single n s single at done to then h q f z =
+    let p = q z in
+    let none : piecesLeft s at done ≡ [] = no-pieces-left s at done (omega (arith, p .0)) in
+    let e = ended s to then (subst (λ (ps : List Rec). From s ps to then) (ap (leftOver n) none) f) in
+    (p .0, e .1, ap allSingle (none-left s to (e .0)))
+
+-- of the whole sheet, as the verdict on it says
+pub begins-single : (s : List ℕ) (k : ℕ) → k ≡ singleTo (length s) (recordsLeft s 0) → Single s k 0 0
+begins-single s k e = go (allSingle (recordsLeft s 0)) refl e
+  where
+    go : (b : Bool) → allSingle (recordsLeft s 0) ≡ b → k ≡ cond b (length s) 0 → Single s k 0 0
+    go true q n z = (n, refl, q)
+    go false q n z = absurd (omega arith)

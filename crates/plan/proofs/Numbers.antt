@@ -10,15 +10,15 @@ use borrow.Author.Tests.{eqb-false}
 use Rattle.options.specs.Message.{Rec}
 use Rattle.options.specs.Kinds.{kinds}
 use Rattle.options.specs.SheetWalk.{recordsLeft}
-use Rattle.options.specs.Writing.{Wrote, wrote, declined, planFits, written, plans, tryPlans, sheet, afterSheet, writer}
+use Rattle.options.specs.Writing.{splitAll, Wrote, wrote, declined, planFits, written, plans, tryPlans, sheet, afterSheet, writer}
 use Rattle.theorems.proofs.View.{clash}
 use Rattle.sheet.specs.Judge.{judgeOf}
 use Rattle.sheet.proofs.Verdicts.{verdict-settles}
 use Rattle.plan.specs.Answer.{AnswerLosesNothing, RefusalsAreNumbered}
 
 pub answer-loses-nothing : AnswerLosesNothing
-answer-loses-nothing (wrote p w) m = refl
-answer-loses-nothing (declined n p) m = refl
+answer-loses-nothing single (wrote p w) m = refl
+answer-loses-nothing single (declined n p) m = refl
 
 -- what declines does so by a number other than 0
 abbrev Numbered : Wrote → Type 0
@@ -43,8 +43,8 @@ tried (p ∷ ps) m rs = go (planFits p (length m - 240) rs) (tried ps m rs)
 judged : (s m : List ℕ) (permission : ℕ) → Numbered (afterSheet m permission (sheet kinds s))
 judged s m permission n p e = go (eqb (judgeOf s .number) 0) refl n p (sym (verdict-settles s m permission) ∙ e)
   where
-    go : (b : Bool) → eqb (judgeOf s .number) 0 ≡ b → Numbered (cond b (tryPlans (plans permission) m (recordsLeft s 0)) (declined (judgeOf s .number) (judgeOf s .place)))
-    go true q = tried (plans permission) m (recordsLeft s 0)
+    go : (b : Bool) → eqb (judgeOf s .number) 0 ≡ b → Numbered (cond b (tryPlans (plans permission) m (splitAll (recordsLeft s 0))) (declined (judgeOf s .number) (judgeOf s .place)))
+    go true q = tried (plans permission) m (splitAll (recordsLeft s 0))
     go false q = by-number (judgeOf s .number) (judgeOf s .place) (eqb-false _ _ q)
 
 pub refusals-are-numbered : RefusalsAreNumbered

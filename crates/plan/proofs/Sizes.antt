@@ -4,20 +4,13 @@ use mathlib.Core.List.{List, [], _∷_}
 use mathlib.Core.Bool.{Bool, true, false, cond}
 use Prim.Native.Nat.{ℕ, suc, _+_, _-_, _<_, _≤_}
 use native.Mathlib.Omega.{arith}
-use lib.ListN.{length, drop, length-append}
+use lib.ListN.{length, drop}
 use lib.Dec.{ltb, leb}
 use borrow.Author.Tests.{ltb-true, ltb-false, lt-ltb, le-ltb, le-leb, leb-true, leb-false, ne-eqb}
 use Rattle.options.specs.Message.{Rec}
-use Rattle.options.specs.Answers.{recordBytes}
-use Rattle.options.specs.Writing.{size, fits, isNil, pastOptions, pastFile, pastSname, planFits}
-use Rattle.options.specs.SheetWalk.{recordsLeft, Whole}
+use Rattle.options.specs.Writing.{size, optionBytes, fits, isNil, pastOptions, pastFile, pastSname, planFits}
 use Rattle.plan.specs.Steps.{sizes, leftOver}
-
--- an option is one byte shorter than its record
-record-bytes : (rs : List Rec) → length (recordBytes rs) ≡ length rs + sizes rs
-unfolding recordBytes sizes
-record-bytes [] = refl
-record-bytes (r ∷ rs) = omega (arith, length-append (r .body) (recordBytes rs), record-bytes rs)
+use Rattle.plan.proofs.Counting.{sizes-more}
 
 shift : (a b k : ℕ) → a < k → ltb b (k - a) ≡ ltb (a + b) k
 shift a b k l = same (ltb b (k - a)) refl
@@ -28,9 +21,9 @@ shift a b k l = same (ltb b (k - a)) refl
 
 -- none is left over
 all-fit : (n : ℕ) (rs : List Rec) → 0 < n → isNil (leftOver n rs) ≡ ltb (sizes rs) n
-unfolding fits sizes
+unfolding fits optionBytes
 all-fit n [] h = sym (lt-ltb 0 n h)
-all-fit n (r ∷ rs) h = go (ltb (size r) n) refl (λ l. all-fit (n - size r) rs l)
+all-fit n (r ∷ rs) h = go (ltb (size r) n) refl (λ l. all-fit (n - size r) rs l) ∙ ap (λ (k : ℕ). ltb k n) (sym (sizes-more r rs))
   where
     go : (b : Bool) → ltb (size r) n ≡ b → (0 < n - size r → isNil (leftOver (n - size r) rs) ≡ ltb (sizes rs) (n - size r))
         → isNil (drop (cond b (suc (fits (n - size r) rs)) 0) (r ∷ rs)) ≡ ltb (size r + sizes rs) n
@@ -38,10 +31,6 @@ all-fit n (r ∷ rs) h = go (ltb (size r) n) refl (λ l. all-fit (n - size r) rs
         let l : size r < n = ltb-true (size r) n t in
         ih (omega arith) ∙ shift (size r) (sizes rs) n l
     go false t ih = sym (le-ltb (size r + sizes rs) n (omega (arith, ltb-false (size r) n t)))
-
--- the options of a whole sheet take one byte less for each record
-pub total-is : (s : List ℕ) → Whole s 0 → length s ≡ length (recordsLeft s 0) + sizes (recordsLeft s 0)
-total-is s w = omega (arith, w .to-end, record-bytes (recordsLeft s 0))
 
 -- ---- Each plan
 

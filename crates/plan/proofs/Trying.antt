@@ -9,11 +9,11 @@ use lib.Dec.{eqb, ltb}
 use borrow.Author.Tests.{lt-ltb, le-ltb, lt-leb, eq-eqb, ne-eqb, eqb-true, eqb-false}
 use Rattle.options.specs.Message.{Rec}
 use Rattle.options.specs.Kinds.{kinds}
-use Rattle.options.specs.SheetWalk.{recordsLeft}
-use Rattle.options.specs.Writing.{wrote, planFits, written, plans, tryPlans, sheet, afterSheet, writer}
+use Rattle.options.specs.Writing.{wrote, piecesLeft, planFits, written, plans, tryPlans, sheet, afterSheet, writer}
+use Rattle.writing_theorems.proofs.PieceSteps.{pieces-at-record}
 use Rattle.sheet.specs.Judge.{judgeOf}
 use Rattle.sheet.proofs.Verdicts.{Accepted, tries, refused}
-use Rattle.plan.specs.Answer.{answerOf, Answers}
+use Rattle.plan.specs.Answer.{answerOf, singleOf, Answers}
 use Rattle.plan.specs.Steps.{sizes, overloading, firstFit, Tries}
 use Rattle.plan.specs.declared.Choice.{Choice}
 use Rattle.plan.specs.declared.Choice.the-variants.{Plan, Refused}
@@ -109,38 +109,38 @@ plans-are permission = go (eqb permission 0) (eqb permission 1) (eqb permission 
     go false false false = refl
 
 -- the answer by the number of the first that fits, 0 for none
-abbrev answer : ℕ → ℕ → Choice
-answer q n = cond (eqb q 0) (Refused 11 n) (Plan q)
+abbrev answer : ℕ → ℕ → ℕ → Choice
+answer single q n = cond (eqb q 0) (Refused 11 n) (Plan q single)
 
-tried : (m : List ℕ) (rs : List Rec) (ps : List ℕ) → Overload ps → answerOf (tryPlans ps m rs) ≡ answer (firstFit ps (length m - 240) rs) (length m)
+tried : (single : ℕ) (m : List ℕ) (rs : List Rec) (ps : List ℕ) → Overload ps → answerOf single (tryPlans ps m rs) ≡ answer single (firstFit ps (length m - 240) rs) (length m)
 unfolding firstFit tryPlans
-tried m rs [] o = refl
-tried m rs (p ∷ ps) o = go (planFits p (length m - 240) rs) (tried m rs ps (o .1))
+tried single m rs [] o = refl
+tried single m rs (p ∷ ps) o = go (planFits p (length m - 240) rs) (tried single m rs ps (o .1))
   where
-    go : (b : Bool) → answerOf (tryPlans ps m rs) ≡ answer (firstFit ps (length m - 240) rs) (length m)
-        → answerOf (cond b (wrote p (written p m rs)) (tryPlans ps m rs)) ≡ answer (cond b p (firstFit ps (length m - 240) rs)) (length m)
+    go : (b : Bool) → answerOf single (tryPlans ps m rs) ≡ answer single (firstFit ps (length m - 240) rs) (length m)
+        → answerOf single (cond b (wrote p (written p m rs)) (tryPlans ps m rs)) ≡ answer single (cond b p (firstFit ps (length m - 240) rs)) (length m)
     go true ih = rw (ne-eqb p 0 (λ z. omega (arith, o .0)))
     go false ih = ih
 
-module _ (rs : List Rec) (n permission : ℕ) where
-  pub by-plan-0 : planFits 0 (n - 240) rs ≡ true → Tries rs n permission (Plan 0)
+module _ (rs : List Rec) (n permission single : ℕ) where
+  pub by-plan-0 : planFits 0 (n - 240) rs ≡ true → Tries rs n permission single (Plan 0 single)
   unfolding tryPlans
   by-plan-0 t m e = rw (plans-are permission, e, t)
 
   module _ (f : planFits 0 (n - 240) rs ≡ false) (q : ℕ) (eq : q ≡ firstFit (overloading permission) (n - 240) rs) where
-    overloads : (m : List ℕ) → length m ≡ n → answerOf (tryPlans (plans permission) m rs) ≡ answer q n
+    overloads : (m : List ℕ) → length m ≡ n → answerOf single (tryPlans (plans permission) m rs) ≡ answer single q n
     unfolding tryPlans
     overloads m e =
-        let t : answerOf (tryPlans (overloading permission) m rs) ≡ answer q n =
-        tried m rs (overloading permission) (overload permission)
-        ∙ ap (λ (k : ℕ). answer (firstFit (overloading permission) (k - 240) rs) k) e
-        ∙ ap (λ (k : ℕ). answer k n) (sym eq) in
+        let t : answerOf single (tryPlans (overloading permission) m rs) ≡ answer single q n =
+        tried single m rs (overloading permission) (overload permission)
+        ∙ ap (λ (k : ℕ). answer single (firstFit (overloading permission) (k - 240) rs) k) e
+        ∙ ap (λ (k : ℕ). answer single k n) (sym eq) in
         rw (plans-are permission, e, f) t
 
-    pub by-no-plan : q ≡ 0 → Tries rs n permission (Refused 11 n)
+    pub by-no-plan : q ≡ 0 → Tries rs n permission single (Refused 11 n)
     by-no-plan z m e = sym (overloads m e ∙ rw (eq-eqb q 0 z))
 
-    pub by-plan : (q ≡ 0 → ⊥) → Tries rs n permission (Plan q)
+    pub by-plan : (q ≡ 0 → ⊥) → Tries rs n permission single (Plan q single)
     by-plan z m e = sym (overloads m e ∙ rw (ne-eqb q 0 z))
 
 -- ---- The tests before the plans
@@ -171,7 +171,10 @@ module _ (s : List ℕ) (n permission : ℕ) where
           to-sheet m e = rw (e, le-ltb n 240 h, le-ltb 1472 n h2, le-ltb 3 permission h3, le-ltb 4096 (length s) h4)
 
           pub faulty-sheet : (k p : ℕ) → k ≡ judgeOf s .number → p ≡ judgeOf s .place → (k ≡ 0 → ⊥) → Answers s n permission (Refused k p)
-          faulty-sheet k p ek ep z m e = ap₂ Refused ek ep ∙ ap answerOf (sym (to-sheet m e ∙ refused s m permission (λ q. z (ek ∙ q))))
+          faulty-sheet k p ek ep z m e = ap₂ Refused ek ep ∙ ap (answerOf (singleOf s)) (sym (to-sheet m e ∙ refused s m permission (λ q. z (ek ∙ q))))
 
-          pub sound-sheet : Accepted s → (r : Choice) → Tries (recordsLeft s 0) n permission r → Answers s n permission r
-          sound-sheet a r t m e = t m e ∙ ap answerOf (sym (to-sheet m e ∙ tries s m permission a))
+          pub sound-sheet : Accepted s → (single : ℕ) → single ≡ judgeOf s .single → (r : Choice) → Tries (piecesLeft s 0 0) n permission single r → Answers s n permission r
+          sound-sheet a single g r t m e =
+              t m e
+              ∙ ap₂ (λ (k : ℕ) (ps : List Rec). answerOf k (tryPlans (plans permission) m ps)) (g ∙ a .single) (pieces-at-record s 0)
+              ∙ ap (answerOf (singleOf s)) (sym (to-sheet m e ∙ tries s m permission a))

@@ -4,26 +4,31 @@ use mathlib.Core.List.{List}
 use Prim.Native.Nat.{ℕ}
 use lib.ListN.{length}
 use Rattle.options.specs.Kinds.{kinds}
+use Rattle.options.specs.SheetWalk.{recordsLeft}
 use Rattle.options.specs.Writing as options
+use Rattle.sheet.specs.Judge.{singleTo}
 use Rattle.plan.specs.declared.Choice.{Choice}
 use Rattle.plan.specs.declared.Choice.the-variants.{Plan, Refused}
 
--- "The first that fits is used, and its number is the answer"; else number and place of the refusal
-abbrev pub answerOf : options.Wrote → Choice
-answerOf (options.wrote p w) = Plan p
-answerOf (options.declined n p) = Refused n p
+-- "The first that fits is used, and its number is the answer"; else number and place of the refusal. `single` is as in the verdict on the sheet
+abbrev pub answerOf : (single : ℕ) → options.Wrote → Choice
+answerOf single (options.wrote p w) = Plan p single
+answerOf single (options.declined n p) = Refused n p
+
+abbrev pub singleOf : List ℕ → ℕ
+singleOf s = singleTo (length s) (recordsLeft s 0)
 
 -- what the writer answers for every buffer of n bytes
 abbrev pub Answers : List ℕ → ℕ → ℕ → Choice → Type 0
-Answers s n permission r = (m : List ℕ) → length m ≡ n → r ≡ answerOf (options.writer kinds s m permission)
+Answers s n permission r = (m : List ℕ) → length m ≡ n → r ≡ answerOf (singleOf s) (options.writer kinds s m permission)
 
 -- nothing is lost: the answer and the buffer after the call tell what the definition gives
 abbrev pub outcomeFrom : Choice → List ℕ → options.Wrote
-outcomeFrom (Plan p) after = options.wrote p after
+outcomeFrom (Plan p single) after = options.wrote p after
 outcomeFrom (Refused n p) after = options.declined n p
 
 abbrev pub AnswerLosesNothing : Type 0
-AnswerLosesNothing = (w : options.Wrote) (m : List ℕ) → outcomeFrom (answerOf w) (options.bufferAfter m w) ≡ w
+AnswerLosesNothing = (single : ℕ) (w : options.Wrote) (m : List ℕ) → outcomeFrom (answerOf single w) (options.bufferAfter m w) ≡ w
 
 -- no refusal has number 0
 abbrev pub RefusalsAreNumbered : Type 0

@@ -1,35 +1,39 @@
--- What the private functions are held to, here and in `writer`: the records that a field leaves over, and the first plan that fits. Assumes nothing.
+-- What the private functions are held to, here and in `writer`: the pieces that a field leaves over, and the first plan that fits. Assumes nothing.
 use mathlib.Core.Path.{_≡_}
 use mathlib.Core.List.{List, [], _∷_}
-use mathlib.Core.Bool.{cond}
-use Prim.Native.Nat.{ℕ, _+_}
+use mathlib.Core.Bool.{true, cond}
+use Prim.Native.Nat.{ℕ, _<_}
 use lib.ListN.{length, drop}
 use lib.Dec.{eqb}
 use Rattle.options.specs.Message.{Rec}
-use Rattle.options.specs.SheetWalk.{recordsLeft, Whole}
-use Rattle.options.specs.Writing.{size, fits, planFits, plans, tryPlans}
+use Rattle.options.specs.SheetWalk.{recordsLeft}
+use Rattle.options.specs.Writing.{optionBytes, fits, planFits, plans, tryPlans, piecesLeft, Between}
+use Rattle.sheet.specs.Judge.{allSingle}
 use Rattle.plan.specs.Answer.{answerOf}
 use Rattle.plan.specs.declared.Choice.{Choice}
 use Rattle.plan.specs.declared.Rest.{Rest}
 
--- the bytes that the options of the records take
-unfoldable pub sizes : List Rec → ℕ
-sizes [] = 0
-sizes (r ∷ rs) = size r + sizes rs
+-- the bytes that the options of the pieces take
+abbrev pub sizes : List Rec → ℕ
+sizes ps = length (optionBytes ps)
 
--- the records that a field of n bytes leaves over
+-- the pieces that a field of n bytes leaves over
 abbrev pub leftOver : ℕ → List Rec → List Rec
-leftOver n rs = drop (fits n rs) rs
+leftOver n ps = drop (fits n ps) ps
 
--- a place in the sheet from which on it is these records, to its end
-pub record From (s : List ℕ) (rs : List Rec) (place : ℕ) : Type 0 where
-  pub records : recordsLeft s place ≡ rs
-  pub whole : Whole s place
+-- a place in the sheet, `done` bytes into a record, from which on it is these pieces, to its end
+pub record From (s : List ℕ) (ps : List Rec) (place done : ℕ) : Type 0 where
+  pub pieces : piecesLeft s place done ≡ ps
+  pub between : Between s place done
+
+-- where `single` is not 0 it is the length of the sheet, and from the place on each record is one piece
+abbrev pub Single : List ℕ → (single place done : ℕ) → Type 0
+Single s single place done = 0 < single → (single ≡ length s) × (done ≡ 0) × (allSingle (recordsLeft s place) ≡ true)
 
 -- where what a field of n bytes leaves over begins, and how much it is
-pub record RestOf (n : ℕ) (s : List ℕ) (at : ℕ) (r : Rest) : Type 0 where
-  pub from : From s (leftOver n (recordsLeft s at)) (r .place)
-  pub total : r .total ≡ sizes (leftOver n (recordsLeft s at))
+pub record RestOf (n : ℕ) (s : List ℕ) (at done : ℕ) (r : Rest) : Type 0 where
+  pub from : From s (leftOver n (piecesLeft s at done)) (r .place) (r .done)
+  pub total : r .total ≡ sizes (leftOver n (piecesLeft s at done))
 
 -- the permitted plans after plan 0
 abbrev pub overloading : ℕ → List ℕ
@@ -41,9 +45,9 @@ overloading permission =
 -- the first of these plans that fits, the options field having n bytes; 0 where none does
 unfoldable pub firstFit : List ℕ → ℕ → List Rec → ℕ
 unfolding planFits
-firstFit [] n rs = 0
-firstFit (p ∷ ps) n rs = cond (planFits p n rs) p (firstFit ps n rs)
+firstFit [] n ps = 0
+firstFit (p ∷ qs) n ps = cond (planFits p n ps) p (firstFit qs n ps)
 
--- the answer for these records, and every buffer of n bytes
-abbrev pub Tries : List Rec → ℕ → ℕ → Choice → Type 0
-Tries rs n permission r = (m : List ℕ) → length m ≡ n → r ≡ answerOf (tryPlans (plans permission) m rs)
+-- the answer for these pieces, and every buffer of n bytes
+abbrev pub Tries : List Rec → ℕ → ℕ → ℕ → Choice → Type 0
+Tries ps n permission single r = (m : List ℕ) → length m ≡ n → r ≡ answerOf single (tryPlans (plans permission) m ps)

@@ -17,7 +17,7 @@ pub fn present(m: &[u8]) -> Codes
     ensures { λ r. ⌜ r ≡ codesOf (present (now (m .entry))) ⌝ }
 {
     let mut words = [0; 4];
-    let w = message::scan(m, 0, &mut words);
+    let w = message::codes(m, &mut words);
     let count = codeset::count(words);
     let lowest = codeset::lowest(words);
     Codes {

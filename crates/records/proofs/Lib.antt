@@ -1,6 +1,9 @@
 pub mod Rooms
 pub mod Within
-pub mod Overload
+pub mod Places
+pub mod Codes
+pub mod Table
 pub mod Laying
+pub mod Joining
 pub mod AcceptedEnds
 pub mod Outcomes

@@ -1,84 +1,117 @@
 -- The records of a message, by what the walk that judged it tells. Assumes nothing.
-use mathlib.Core.Path.{_≡_, refl, sym, ap, _∙_}
-use mathlib.Core.Bool.{true, false}
-use mathlib.Core.List.{List}
-use Prim.Native.Nat.{ℕ, _+_, _≤_, _<_}
+use mathlib.Core.Path.{_≡_, refl, sym, ap, ap₂, _∙_}
+use mathlib.Core.List.{List, [], _∷_}
+use Prim.Native.Nat.{ℕ, _+_, _*_, _≤_, _<_}
 use native.Mathlib.Omega.{arith}
-use lib.Dec.{ltb}
 use lib.ListN.{length}
-use borrow.Author.Tests.{lt-ltb, le-ltb}
-use Rattle.options.specs.Message.{Opt}
-use Rattle.options.specs.Reading.{accepted, refused, items, overload, readMessage}
-use Rattle.options.specs.Answers.{recordBytes, but52, given, declined, Filled, filledWith, records}
-use Rattle.options.specs.Answers as answers
-use Rattle.theorems.proofs.CodesPresent.{no-code-twice}
-use Rattle.theorems.proofs.Sheets.{records-is}
-use Rattle.message.specs.Scan.{usedBy}
-use Rattle.message.specs.Active.{activeOptions}
-use Rattle.message.proofs.Split.{passed}
+use borrow.Author.Tests.{ne-eqb}
+use Rattle.options.specs.Message.{Field, options, file, sname, start, Opt, dataStart}
+use Rattle.options.specs.Reading.{accepted, refused, items, overload, readMessage, pieces}
+use Rattle.options.specs.CodeSet.{noCodes, countOf}
+use Rattle.options.specs.Answers.{recordBytes, but52, sheetRecords, Present, present, unfilled, filledWith, records}
+use Rattle.options.specs.ReadingClaims.{IsAccepted}
 use Rattle.options.specs.KindClaims.{AllBytes}
+use Rattle.theorems.proofs.CodesPresent.{listed-small, present-is}
+use Rattle.theorems.proofs.Lengths.{taken, options-short, few-options, joined-short}
+use Rattle.theorems.proofs.Sheets.{records-is, records-are-shorter}
+use Rattle.message.specs.declared.Scanned.{Scanned}
+use Rattle.message.specs.Scan.{firstStart, usedBy, surveyOf}
+use Rattle.message.specs.Active.{activeOptions}
+use Rattle.message.proofs.Callers.{SurveyAccepted, survey-refused, survey-accepted, passed}
 use Rattle.buffer.specs.Written.{Written}
-use Rattle.buffer.proofs.Writing.{written-front}
-use Rattle.records.specs.declared.Given.{Given}
-use Rattle.records.specs.declared.Given.the-variants.{Bytes, Refused}
-use Rattle.records.specs.Fill.{givenOf, codedGiven, AnswersComeBack, Fills}
-use Rattle.records.specs.FieldRecords.{ActiveEnds, activeRecords, room52}
-use Rattle.records.proofs.Rooms.{rooms52, room-is, active-records}
-use Rattle.records.proofs.Overload.{right-52, rooms-is}
+use Rattle.buffer.proofs.Writing.{written-front, written-as}
+use Rattle.filled.specs.declared.Given.the-variants.{Bytes, Refused}
+use Rattle.filled.specs.Fill.{Fills}
+use Rattle.filled.proofs.Answers.{fills-unfilled, fills-small, fills-enough}
+use Rattle.records.specs.FieldRecords.{ActiveEnds, activeRecords}
+use Rattle.records.specs.JoinedRecords.{Small, sheetFrom, only52, fresh, head52, needed, held}
+use Rattle.records.proofs.Rooms.{active-records}
+use Rattle.records.proofs.Codes.{one, sheet-is, codes-counted, sheet-size, sheet-once}
 use Rattle.records.proofs.AcceptedEnds.{active-ends}
 
-answer-back : (g : Given) → codedGiven (givenOf g) ≡ g
-answer-back (Bytes n) = refl
-answer-back (Refused n p) = refl
+pub fills-refused : (m old : List ℕ) (t : Scanned) → t ≡ surveyOf m → (t .number ≡ 0 → ⊥) → Fills (records m old) (Refused (t .number) (t .place)) old
+fills-refused m old t h y = fills-unfilled (records m old) (t .number) (t .place) old (records-is m old (survey-refused m t h y))
 
-answer-there : (g : answers.Given) → givenOf (codedGiven g) ≡ g
-answer-there (given n) = refl
-answer-there (declined n p) = refl
+head-is : (ps : List Opt) → head52 (firstStart ps) ≡ one ps * 3
+head-is [] = refl
+head-is (o ∷ os) = rw (ne-eqb (dataStart o) 0 (λ e. omega arith)) refl
 
-pub answers-come-back : AnswersComeBack
-answers-come-back = (answer-back, answer-there)
+used-taken : (os : List Opt) → usedBy os ≡ taken os
+unfolding usedBy
+used-taken [] = refl
+used-taken (o ∷ os) = omega (arith, used-taken os)
 
-pub fills-refused : (m old : List ℕ) (n p : ℕ) → readMessage m ≡ refused n p → Fills (records m old) (Refused n p) old
-fills-refused m old n p e =
-    let r = records-is m old e in
-    record { answer = sym (ap (λ (x : Filled). x .answer) r); buffer = sym (ap (λ (x : Filled). x .buffer) r) }
-
--- m is accepted; its options take `used` bytes in their fields and are `count` in number, and the value of option 52 is `over`
-pub record Told (m : List ℕ) (used count over : ℕ) : Type 0 where
+-- m is accepted, t tells of it, and it has so many codes
+pub record Told (m : List ℕ) (t : Scanned) (codes : ℕ) : Type 0 where
   pub options : List Opt
-  pub reads : readMessage m ≡ accepted options
-  pub used-is : used ≡ usedBy (items options)
-  pub count-is : count ≡ length (items options)
-  pub over-is : over ≡ overload (items options)
-  pub options-are : options ≡ activeOptions over m
+  pub tells : SurveyAccepted m t options
+  pub small : Small options
+  pub codes-are : codes ≡ fresh noCodes options
 
-module _ {m : List ℕ} {used count over : ℕ} (t : Told m used count over) where
-  pub told-long : 240 ≤ length m
-  told-long = passed m (t .options) (t .reads) .least
+pub told-of : (m : List ℕ) (t : Scanned) (codes : ℕ) → AllBytes m → t ≡ surveyOf m → t .number ≡ 0 → codes ≡ countOf (present m .words) → Told m t codes
+told-of m t codes b h y c =
+    let a = survey-accepted m t b h y in
+    let s : Small (a .0) = listed-small m (a .1 .reads) b in
+    record {
+      options = a .0;
+      tells = a .1;
+      small = s;
+      codes-are = c ∙ ap (λ (p : Present). countOf (p .words)) (present-is m (a .1 .reads)) ∙ codes-counted (a .0) s;
+    }
 
-  pub told-ends : AllBytes m → ActiveEnds over m
-  told-ends b = rw (t .over-is) (active-ends m (t .options) b (t .reads))
+module _ {m : List ℕ} {t : Scanned} {codes : ℕ} (k : Told m t codes) where
+  -- the records
+  abbrev pub sheetOf : List ℕ
+  sheetOf = recordBytes (sheetFrom only52 (activeOptions (t .over) m))
 
-  bytes-are : recordBytes (but52 (items (t .options))) ≡ activeRecords over m
-  bytes-are = ap (λ (l : List Opt). recordBytes (but52 (items l))) (t .options-are) ∙ active-records over m
+  os-are : recordBytes (sheetFrom only52 (k .options)) ≡ sheetOf
+  os-are = ap (λ (l : List Opt). recordBytes (sheetFrom only52 l)) (k .tells .options-are)
 
-  -- how long the records are
-  pub told-size : used + count ≡ length (activeRecords over m) + room52 over
+  is-filled : (old : List ℕ) → records m old ≡ filledWith sheetOf old
+  is-filled old =
+      records-is m old (k .tells .reads)
+      ∙ ap (λ (l : List ℕ). filledWith l old) (ap recordBytes (sym (sheet-is (k .options) (k .small))) ∙ os-are)
+
+  pub told-used : (t .used ≤ 65536) × (t .count ≤ 65536) × (t .whole ≤ 65536)
+  told-used =
+      let a : IsAccepted m = record { options = k .options; reads = k .tells .reads } in (
+        omega (arith, ap (λ (x : Scanned). x .used) (k .tells .is), used-taken (k .options), options-short m a),
+        omega (arith, ap (λ (x : Scanned). x .count) (k .tells .is), few-options m a),
+        omega (arith, ap (λ (x : Scanned). x .whole) (k .tells .is), joined-short m a 52),
+      )
+
+  -- how long they are
+  told-size : length sheetOf + t .count * 2 + t .whole + head52 (t .start) ≡ needed t codes
   told-size =
-      let rooms : rooms52 (items (t .options)) ≡ room52 over =
-      rooms-is (t .options) (right-52 m (t .options) (t .reads)) (no-code-twice (record { options = t .options; reads = t .reads })) ∙ ap room52 (sym (t .over-is)) in
-      omega (arith, t .used-is, t .count-is, room-is (items (t .options)), ap length bytes-are)
+      omega (arith, ap length os-are, sheet-size (k .options) (k .small), k .codes-are, ap (λ (x : Scanned). x .used) (k .tells .is), ap (λ (x : Scanned). x .count) (k .tells .is), ap (λ (x : Scanned). x .whole) (k .tells .is), ap (λ (x : Scanned). head52 (x .start)) (k .tells .is), head-is (pieces 52 (k .options)))
 
-  is-filled : (old : List ℕ) → records m old ≡ filledWith (activeRecords over m) old
-  is-filled old = records-is m old (t .reads) ∙ ap (λ (l : List ℕ). filledWith l old) bytes-are
+  pub told-fits : (n : ℕ) → needed t codes ≤ held n t → length sheetOf ≤ n
+  told-fits n h = omega (arith, told-size)
 
-  pub fills-declined : (old : List ℕ) → length old + room52 over < used + count → Fills (records m old) (Refused 11 (length old)) old
-  fills-declined old l =
-      let b : ltb (length old) (length (activeRecords over m)) ≡ true = lt-ltb (length old) (length (activeRecords over m)) (omega (arith, told-size)) in
-      rw (is-filled, b) (record { answer = refl; buffer = refl })
+  pub told-short : length sheetOf < 65536
+  told-short = omega (arith, records-are-shorter m (record { options = k .options; reads = k .tells .reads }), ap length (ap recordBytes (sym (sheet-is (k .options) (k .small))) ∙ os-are))
 
-  pub fills-given : (old : List ℕ) {r : ℕ} {after : List ℕ} → used + count ≤ length old + room52 over → Written old 0 (activeRecords over m) r after → Fills (records m old) (Bytes r) after
-  fills-given old {r} {after} l p =
-      let b : ltb (length old) (length (activeRecords over m)) ≡ false = le-ltb (length old) (length (activeRecords over m)) (omega (arith, told-size)) in
+  pub fills-declined : (old : List ℕ) → held (length old) t < needed t codes → Fills (records m old) (Refused 11 (length old)) old
+  fills-declined old l = fills-small (records m old) sheetOf old (is-filled old) (omega (arith, told-size))
+
+  pub fills-given : (old : List ℕ) (r : ℕ) (after : List ℕ) → needed t codes ≤ held (length old) t → Written old 0 sheetOf r after → Fills (records m old) (Bytes r) after
+  fills-given old r after l p =
       let f = written-front p in
-      rw (is-filled, b) (record { answer = ap given (f .0); buffer = f .1 })
+      fills-enough (records m old) sheetOf old (is-filled old) r after (told-fits (length old) l) (f .0) (f .1)
+
+  -- where every code stands once
+  pub told-once : t .count ≡ codes → sheetOf ≡ activeRecords (t .over) m
+  told-once e =
+      sym os-are
+      ∙ ap recordBytes (sheet-once (k .options) (k .small) (sym (k .codes-are) ∙ sym e ∙ ap (λ (x : Scanned). x .count) (k .tells .is)))
+      ∙ ap (λ (l : List Opt). recordBytes (but52 (items l))) (k .tells .options-are)
+      ∙ active-records (t .over) m
+
+  pub told-long : 240 ≤ length m
+  told-long = passed m (k .options) (k .tells .reads) .least
+
+  pub told-ends : AllBytes m → ActiveEnds (t .over) m
+  told-ends b = rw (ap (λ (x : Scanned). x .over) (k .tells .is)) (active-ends m (k .options) b (k .tells .reads))
+
+  pub told-small : Small (activeOptions (t .over) m)
+  told-small = rw (k .tells .options-are) at (k .small)

@@ -1,4 +1,4 @@
--- The bytes of records: their length, and those of a field, an option at a time. Assumes nothing.
+-- The bytes of records, field after field and an option at a time. Assumes nothing.
 use mathlib.Core.Path.{_≡_, refl, sym, ap, ap₂, _∙_}
 use mathlib.Core.Bool.{Bool, true, false, cond}
 use mathlib.Core.List.{List, [], _∷_, _++_, append-assoc}
@@ -9,26 +9,8 @@ use lib.ListN.{length, length-append}
 use Rattle.options.specs.Message.{Field, options, file, sname, bytes, Rec, Opt}
 use Rattle.options.specs.Reading.{Parse, ended, ranOut, beyond, found, parse, items, fileIn, snameIn}
 use Rattle.options.specs.Answers.{recordBytes, but52}
-use Rattle.message.specs.Scan.{usedBy}
 use Rattle.message.specs.Active.{optionsIn, fieldFrom, optionsFrom, activeOptions}
 use Rattle.records.specs.FieldRecords.{shortRecord, optionRecord, itemsIn, bytesIn, fieldRecords, activeRecords}
-
--- what options 52 would take as records
-unfoldable pub rooms52 : List Rec → ℕ
-rooms52 [] = 0
-rooms52 (r ∷ rs) = cond (eqb (r .tag) 52) (length (r .body) + 3) 0 + rooms52 rs
-
--- a record takes one byte more than its option does in its field
-pub room-is : (rs : List Rec) → usedBy rs + length rs ≡ length (recordBytes (but52 rs)) + rooms52 rs
-unfolding usedBy but52 recordBytes rooms52
-room-is [] = refl
-room-is (r ∷ rs) = go (eqb (r .tag) 52) (room-is rs)
-  where
-    go : (t : Bool) → usedBy rs + length rs ≡ length (recordBytes (but52 rs)) + rooms52 rs
-        → 2 + length (r .body) + usedBy rs + suc (length rs)
-        ≡ length (recordBytes (cond t (but52 rs) (r ∷ but52 rs))) + (cond t (length (r .body) + 3) 0 + rooms52 rs)
-    go true h = omega arith
-    go false h = omega (arith, length-append (r .body) (recordBytes (but52 rs)))
 
 -- ---- one list of options after another
 

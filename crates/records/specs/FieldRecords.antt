@@ -54,7 +54,3 @@ fieldRecords on f = cond on (bytesIn (parse 0 0 f)) []
 -- the records of a message whose option 52 is v, or 0 where it has none
 abbrev pub activeRecords : ℕ → List ℕ → List ℕ
 activeRecords v m = fieldRecords true (bytes options m) ++ (fieldRecords (fileIn v) (bytes file m) ++ fieldRecords (snameIn v) (bytes sname m))
-
--- what option 52 would take as a record, by its value (0: it is not there)
-abbrev pub room52 : ℕ → ℕ
-room52 over = cond (eqb over 0) 0 4

@@ -3,11 +3,10 @@ use mathlib.Core.Path.{_≡_, refl, sym, ap, _∙_}
 use mathlib.Core.List.{List, [], _∷_}
 use mathlib.Core.Bool.{Bool, true, false, cond}
 use mathlib.Core.Option.{Option, none, some}
-use Prim.Native.Nat.{ℕ}
+use Prim.Native.Nat.{ℕ, _≤_, _<_}
 use native.Mathlib.Omega.{arith}
 use lib.ListN.{length}
-use lib.Dec.{ltb}
-use borrow.Author.Tests.{eq-eqb, ne-eqb}
+use borrow.Author.Tests.{lt-ltb, le-ltb}
 use Rattle.options.specs.Message.{Rec}
 use Rattle.options.specs.Kinds.{Kind, Value, broken, number, part, kindOf, hasRow, judgedBy, judged, meaning, lengthFits, valueFits, kinds}
 use Rattle.options.specs.Reading.{either, among}
@@ -17,7 +16,7 @@ use Rattle.theorems.proofs.View.{clash}
 use Rattle.writing_theorems.proofs.SheetLaws.{Kept}
 use Rattle.kinds.proofs.Numbering.{unbroken}
 use Rattle.kinds.specs.Numbers.{numberOfFault, faultOf}
-use Rattle.sheet.specs.Parts.{noTags, metBroken}
+use Rattle.sheet.specs.Parts.{noTags, longBroken, metBroken}
 
 -- ---- The rule of the kind
 
@@ -54,30 +53,22 @@ firstBroken [] seen r = 0
 firstBroken (x ∷ xs) seen r = cond (x .breaks seen r) (x .gives r) (firstBroken xs seen r)
 
 -- what the code tests, with the tags that may not stand among those met, is what the rules say
-met-is : (wrong over again : Bool) (k : ℕ) → cond (either wrong again) (cond wrong 10 (cond over 13 7)) (cond over 13 k) ≡ cond wrong 10 (cond over 13 (cond again 7 k))
-met-is true over again k = refl
-met-is false true true k = refl
-met-is false true false k = refl
-met-is false false true k = refl
-met-is false false false k = refl
+met-is : (wrong again : Bool) (k : ℕ) → cond (either wrong again) (cond wrong 10 7) k ≡ cond wrong 10 (cond again 7 k)
+met-is true again k = refl
+met-is false true k = refl
+met-is false false k = refl
 
-pub met-first : (seen : List ℕ) (r : Rec) → metBroken (either (among (r .tag) noTags) (among (r .tag) seen)) (r .tag) (r .body) ≡ firstBroken (writerRules kinds) seen r
-met-first seen r =
-    met-is (among (r .tag) noTags) (ltb 255 (length (r .body))) (among (r .tag) seen) (faultOf (r .tag) (r .body))
-    ∙ ap (λ (k : ℕ). cond (among (r .tag) noTags) 10 (cond (ltb 255 (length (r .body))) 13 (cond (among (r .tag) seen) 7 k))) (sym (kind-fault (r .tag) (r .body)))
+pub met-first : (seen : List ℕ) (r : Rec) → length (r .body) ≤ 1024
+    → metBroken (either (among (r .tag) noTags) (among (r .tag) seen)) (r .tag) (r .body) ≡ firstBroken (writerRules kinds) seen r
+met-first seen r h =
+    let k : cond (breaksKind kinds (r .tag) (r .body)) (brokenBy (kinds .value (r .tag) (r .body))) 0 ≡ faultOf (r .tag) (r .body) = kind-fault (r .tag) (r .body) in
+    met-is (among (r .tag) noTags) (among (r .tag) seen) (faultOf (r .tag) (r .body))
+    ∙ ap (λ (x : ℕ). cond (among (r .tag) noTags) 10 (cond (among (r .tag) seen) 7 x)) (sym k)
+    ∙ ap (λ (b : Bool). cond (among (r .tag) noTags) 10 (cond b 13 (cond (among (r .tag) seen) 7 (cond (breaksKind kinds (r .tag) (r .body)) (brokenBy (kinds .value (r .tag) (r .body))) 0))))
+    (sym (le-ltb 1024 (length (r .body)) h))
 
--- the tags that are refused
-pub tag-right : (c : ℕ) → (c ≡ 0 → ⊥) → (c ≡ 52 → ⊥) → (c ≡ 255 → ⊥) → among c noTags ≡ false
-tag-right c x y z = rw (ne-eqb c 0 x, ne-eqb c 52 y, ne-eqb c 255 z)
-
-pub tag-0 : (c : ℕ) → c ≡ 0 → among c noTags ≡ true
-tag-0 c e = rw (eq-eqb c 0 e)
-
-pub tag-52 : (c : ℕ) → (c ≡ 0 → ⊥) → c ≡ 52 → among c noTags ≡ true
-tag-52 c x e = rw (ne-eqb c 0 x, eq-eqb c 52 e)
-
-pub tag-255 : (c : ℕ) → (c ≡ 0 → ⊥) → (c ≡ 52 → ⊥) → c ≡ 255 → among c noTags ≡ true
-tag-255 c x y e = rw (ne-eqb c 0 x, ne-eqb c 52 y, eq-eqb c 255 e)
+pub long-first : (seen : List ℕ) (r : Rec) → 1024 < length (r .body) → longBroken (r .tag) ≡ firstBroken (writerRules kinds) seen r
+long-first seen r h = rw (lt-ltb 1024 (length (r .body)) h)
 
 -- ---- The first rule that is broken, and the sheet
 

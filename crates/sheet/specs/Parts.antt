@@ -1,7 +1,7 @@
 -- What the functions below `judge` are held to. No public contract rests on it. Assumes nothing.
 use mathlib.Core.Bool.{Bool, cond}
 use mathlib.Core.List.{List, [], _∷_}
-use Prim.Native.Nat.{ℕ, _-_}
+use Prim.Native.Nat.{ℕ, _+_, _-_, _*_, _/_}
 use lib.ListN.{length}
 use lib.Dec.{eqb, ltb}
 use Rattle.options.specs.Reading.{either, among}
@@ -14,13 +14,17 @@ use Rattle.sheet.specs.declared.Tags.{Tags}
 abbrev pub noTags : List ℕ
 noTags = 0 ∷ 52 ∷ 255 ∷ []
 
--- the first rule broken by a tag that may not stand, or was met before, with n bytes of data
-abbrev pub tagBroken : ℕ → ℕ → ℕ
-tagBroken c n = cond (among c noTags) 10 (cond (ltb 255 n) 13 7)
+-- the first rule broken by a record of more than 1,024 bytes
+abbrev pub longBroken : ℕ → ℕ
+longBroken c = cond (among c noTags) 10 13
 
--- the first rule broken by a record, where `met` says that its tag is such a one; 0: none
+-- the first rule broken by a record of at most 1,024, where `met` says that its tag may not stand, or was met before; 0: none
 abbrev pub metBroken : Bool → ℕ → List ℕ → ℕ
-metBroken met c d = cond met (tagBroken c (length d)) (cond (ltb 255 (length d)) 13 (faultOf c d))
+metBroken met c d = cond met (cond (among c noTags) 10 7) (faultOf c d)
+
+-- two bytes for each piece behind the first, of a record with n bytes of data
+abbrev pub further : ℕ → ℕ
+further n = 2 * ((n - 1) / 255)
 
 -- the place of a tag 3 that no tag 1 stands before, counted from 1 (0: none), after a record with tag c at a place so counted
 abbrev pub threeAfter : ℕ → Bool → ℕ → ℕ → ℕ
@@ -34,6 +38,17 @@ oneAfter one c = either (eqb c 1) one
 abbrev pub tagsAfter : ℕ → Bool → ℕ → ℕ → Tags
 tagsAfter three one c here = record { three = threeAfter three one c here; one = oneAfter one c }
 
+-- what is counted of the records: the bytes of the options, where each record before is counted so and each one behind by its own bytes, and whether
+-- all were one piece
+pub record Sums : Type 0 where
+  pub total : ℕ
+  pub single : ℕ
+
+-- after a record with n bytes of data: an option's head is one byte shorter than a record's
+abbrev pub sumsAfter : Sums → ℕ → Sums
+sumsAfter x n = record { total = x .total + further n - 1; single = cond (ltb 255 n) 0 (x .single) }
+
 -- 14: "tag 3 stands before tag 1; tag 3's byte"
-abbrev pub orderOf : ℕ → Bool → ℕ → Judged
-orderOf three one n = cond one (cond (eqb three 0) (soundWith n) (faultyAt 14 (three - 1))) (soundWith n)
+abbrev pub orderOf : ℕ → Bool → Sums → Judged
+orderOf three one x =
+    cond one (cond (eqb three 0) (soundWith (x .total) (x .single)) (faultyAt 14 (three - 1))) (soundWith (x .total) (x .single))

@@ -5,12 +5,12 @@ use mathlib.Core.Bool.{Bool, true, false, cond}
 use Prim.Native.Nat.{ℕ, _+_, _*_, _≤_}
 use native.Mathlib.Omega.{arith}
 use native.Mathlib.Decide.{decLt}
-use lib.ListN.{length, take, drop, length-take, length-drop}
+use lib.ListN.{length, take, drop, length-take, length-drop, length-append}
 use lib.Seq.{drop-drop}
-use lib.Dec.{ltb}
-use Rattle.options.specs.Message.{Field, options, file, sname, start, bytes, shortest, longest, cookie, Opt, opt}
+use lib.Dec.{ltb, eqb}
+use Rattle.options.specs.Message.{Field, options, file, sname, start, bytes, shortest, longest, cookie, Opt, opt, endToEnd}
 use Rattle.options.specs.Refusals.{row-2}
-use Rattle.options.specs.Reading.{among, Parse, parse, Reading, accepted, refused, more, wrong52, judge, items, seenAfter, andThen, extend, overloadOf, fileIn, snameIn, allFields, same, readMessage}
+use Rattle.options.specs.Reading.{either, Parse, parse, Reading, accepted, refused, more, wrong52, second52, judge, andThen, pieces, extend, overloadOf, fileIn, snameIn, allFields, same, readMessage}
 use Rattle.options.specs.Writing.{size}
 use Rattle.options.specs.ReadingClaims.{IsAccepted}
 use Rattle.theorems.proofs.View.{Reads, r-none, r-pad, r-end, r-beyond, r-option, reads}
@@ -44,21 +44,21 @@ one-more : (f : List ℕ) (s : ℕ) (o : Opt) (w : Reading) → FromOn f (s + 2 
 one-more f s o (accepted os) h = omega arith
 one-more f s o (refused k p) h = tt
 
-field-holds : (fd : Field) (f : List ℕ) {s : ℕ} {p : Parse} → Reads f s p → s ≤ length f → (seen : List ℕ) → FromOn f s (judge fd seen p)
+field-holds : (fd : Field) (f : List ℕ) {s : ℕ} {p : Parse} → Reads f s p → s ≤ length f → (met : Bool) → FromOn f s (judge fd met p)
 unfolding judge
-field-holds fd f (r-none e) h seen = tt
-field-holds fd f (r-pad {s = s} {p = p} x r) h seen = less (judge fd seen p) (field-holds fd f r (omega (arith, below f s 0 (x .after) (x .reads))) seen)
+field-holds fd f (r-none e) h met = tt
+field-holds fd f (r-pad {s = s} {p = p} x r) h met = less (judge fd met p) (field-holds fd f r (omega (arith, below f s 0 (x .after) (x .reads))) met)
   where
     less : (w : Reading) → FromOn f (s + 1) w → FromOn f s w
     less (accepted os) l = omega arith
     less (refused k p) l = tt
-field-holds fd f (r-end x) h seen = omega arith
-field-holds fd f (r-beyond x) h seen = tt
-field-holds fd f (r-option {s = s} {c = c} {d = d} {p = p} o t) h seen =
-    go (wrong52 fd (record { tag = c; body = d })) (among c seen) (field-holds fd f t (option-in o) (c ∷ seen))
+field-holds fd f (r-end x) h met = omega arith
+field-holds fd f (r-beyond x) h met = tt
+field-holds fd f (r-option {s = s} {c = c} {d = d} {p = p} o t) h met =
+    go (wrong52 fd (record { tag = c; body = d })) (second52 met (record { tag = c; body = d })) (field-holds fd f t (option-in o) (either (eqb c 52) met))
   where
     next : Reading
-    next = judge fd (c ∷ seen) p
+    next = judge fd (either (eqb c 52) met) p
 
     go : (v x : Bool) → FromOn f (s + 2 + length d) next → FromOn f s (cond v (refused 6 (start fd + s)) (cond x (refused 7 (start fd + s)) (more (opt fd s c d) next)))
     go true x g = tt
@@ -72,7 +72,7 @@ extend-holds false fd m n (accepted os) h = omega arith
 extend-holds false fd m n (refused k p) h = tt
 extend-holds true fd m n (refused k p) h = tt
 extend-holds true fd m n (accepted os) h =
-    go (judge fd (seenAfter [] (items os)) (parse 0 0 (bytes fd m))) (field-holds fd (bytes fd m) (reads (bytes fd m)) (omega arith) (seenAfter [] (items os)))
+    go (judge fd false (parse 0 0 (bytes fd m))) (field-holds fd (bytes fd m) (reads (bytes fd m)) (omega arith) false)
   where
     go : (w : Reading) → FromOn (bytes fd m) 0 w → Within (n + length (bytes fd m)) (andThen os w)
     go (accepted ps) l = omega (arith, taken-append os ps)
@@ -118,6 +118,16 @@ field-part options m j n h = ap (take n) (drop-drop j 240 m)
 field-part file m j n h = inner j 128 n (drop 108 m) (omega (arith, length-take 128 (drop 108 m))) ∙ ap (take n) (drop-drop j 108 m)
 field-part sname m j n h = inner j 64 n (drop 44 m) (omega (arith, length-take 64 (drop 44 m))) ∙ ap (take n) (drop-drop j 44 m)
 
+-- the pieces of a code hold no more than all options take
+pieces-less : (c : ℕ) (os : List Opt) → length (endToEnd (pieces c os)) ≤ taken os
+unfolding pieces endToEnd
+pieces-less c [] = omega arith
+pieces-less c (o ∷ os) = go (eqb c (o .item .tag)) (pieces-less c os)
+  where
+    go : (t : Bool) → length (endToEnd (pieces c os)) ≤ taken os → length (endToEnd (cond t (o ∷ pieces c os) (pieces c os))) ≤ taken (o ∷ os)
+    go true h = omega (arith, length-append (o .item .body) (endToEnd (pieces c os)))
+    go false h = omega arith
+
 module _ (m : List ℕ) (a : IsAccepted m) where
   pub message-short : length m ≤ 1472
   message-short = elim (decLt longest (length m)) [ yes h ↦ absurd (no-row-of (a .reads) _ _ _ (row-2 h)) | no h ↦ omega arith ]
@@ -130,3 +140,6 @@ module _ (m : List ℕ) (a : IsAccepted m) where
 
   pub few-options : length (a .options) ≤ 712
   few-options = omega (arith, taken-count (a .options), options-short)
+
+  pub joined-short : (c : ℕ) → length (endToEnd (pieces c (a .options))) ≤ 1424
+  joined-short c = omega (arith, pieces-less c (a .options), options-short)

@@ -2,21 +2,21 @@
 use mathlib.Core.Path.{_≡_, refl, sym, ap, ap₂, _∙_, subst}
 use mathlib.Core.List.{List, [], _∷_}
 use mathlib.Core.Bool.{Bool, true, false, cond}
-use mathlib.Core.Option.{Option, none, some}
 use mathlib.Core.Logic.{_⊎_, inl, inr}
 use Prim.Native.Nat.{ℕ, zero, suc, _+_, _≤_}
 use native.Mathlib.Omega.{arith}
 use lib.ListN.{length, getD, take, drop}
 use lib.Seq.{drop-drop}
 use borrow.Author.Tests.{ne-eqb}
-use Rattle.options.specs.Message.{Field, options, file, sname, start, bytes, Opt, place, Holds, heldOption}
-use Rattle.options.specs.Reading.{Reading, accepted, refused, readMessage, find}
+use Rattle.options.specs.Message.{Field, options, file, sname, start, bytes, Opt, place, Holds, PiecesOf, endToEnd}
+use Rattle.options.specs.Reading.{Reading, accepted, refused, readMessage, pieces}
 use Rattle.options.specs.Kinds.{broken, number, part, Table}
-use Rattle.options.specs.Answers.{Origin, codePlace, Content, unknown, known, Answer, Absent, Refused, Found, isKnown, originOf, contentOf, shown, shownFound, answered, noCode, lookup, refusedWith, verdictOf}
-use Rattle.options.specs.ReadingClaims.{IsAccepted, AbsentIffNotHeld, ContentIs, is-unknown, is-known, Shows, ShowsWhatStands, HeldHasOrigin, CodeByteAt, OriginIsTheCodeByte, GivesNumber, refuses, breaks, VerdictIsTheNumber, ReaderRow, row-10, of-message, LookupRow, of-reader, row-8-9, LookupRefusedByTheTable, KnownSetIndifferent, CorrectAnswer, LookupIsCorrect}
+use Rattle.options.specs.Answers.{Wholeness, Origin, codePlace, Content, unknown, known, Answer, Absent, Refused, Found, isKnown, wholenessOf, originOf, contentOf, shown, answered, noCode, lookup, refusedWith, verdictOf}
+use Rattle.options.specs.ReadingClaims.{IsAccepted, AbsentIffNotHeld, WholenessIs, one-piece, several, OriginIs, ContentIs, is-unknown, is-known, Shows, ShowsWhatStands, HasOrigin, HeldHasOrigin, CodeByteAt, OriginIsTheCodeByte, GivesNumber, refuses, breaks, VerdictIsTheNumber, ReaderRow, row-10, of-message, LookupRow, of-reader, row-8-9, LookupRefusedByTheTable, KnownSetIndifferent, CorrectAnswer, LookupIsCorrect}
 use Rattle.theorems.proofs.View.{clash}
 use Rattle.theorems.proofs.Messages.{two-ways, no-way}
-use Rattle.theorems.proofs.Reading.{refused-by-the-table, held, find-some, find-held, find-not-held}
+use Rattle.theorems.proofs.Reading.{refused-by-the-table}
+use Rattle.theorems.proofs.Pieces.{pieces-right, one-pieces-of, held-iff-piece, first-stands, first-code, piece-held}
 
 -- codes that may be asked for
 pub asked : (c : ℕ) → 1 ≤ c → c ≤ 254 → noCode c ≡ false
@@ -38,11 +38,34 @@ code-range c n l = (low c (λ e. n (inl e)), high c (λ e. n (inr e)) l)
     high : (c : ℕ) → (c ≡ 255 → ⊥) → c ≤ 255 → c ≤ 254
     high c n l = omega arith
 
--- ---- the answer for an option is its own, and no other is
+-- the pieces of an accepted message are those that its list has
+pub the-pieces : {m : List ℕ} (a : IsAccepted m) {c : ℕ} {ps : List Opt} → PiecesOf m c ps → pieces c (a .options) ≡ ps
+the-pieces {m} a {c} {ps} p = one-pieces-of m c (pieces c (a .options)) ps (pieces-right m a c) p
 
--- the origin with a field and an offset
-pub origin-same : (o : Opt) (g : Origin) → g .field ≡ o .field → g .offset ≡ o .offset → originOf o ≡ g
-origin-same o g e f = ap₂ (λ (fd : Field) (k : ℕ). record { field = fd; offset = k }) (sym e) (sym f)
+pub no-pieces : {m : List ℕ} (a : IsAccepted m) (c : ℕ) → (Holds m c → ⊥) → pieces c (a .options) ≡ []
+no-pieces {m} a c n = go (pieces c (a .options)) refl
+  where
+    go : (ps : List Opt) → pieces c (a .options) ≡ ps → ps ≡ []
+    go [] e = refl
+    go (o ∷ ps) e = absurd (n (piece-held (subst (PiecesOf m c) e (pieces-right m a c))))
+
+-- ---- the answer for pieces is the one for them, and no other is
+
+wholeness-of : (o : Opt) (os : List Opt) → WholenessIs (o ∷ os) (wholenessOf (o ∷ os))
+wholeness-of o [] = one-piece
+wholeness-of o (q ∷ os) = several
+
+wholeness-same : (ps : List Opt) (w : Wholeness) → WholenessIs ps w → wholenessOf ps ≡ w
+wholeness-same ps w one-piece = refl
+wholeness-same ps w several = refl
+
+pub origin-of : (o : Opt) (os : List Opt) → OriginIs o os (originOf o os)
+origin-of o os = record { field-is = refl; offset-is = refl; wholeness-is = wholeness-of o os }
+
+pub origin-same : (o : Opt) (os : List Opt) (g : Origin) → OriginIs o os g → originOf o os ≡ g
+origin-same o os g i =
+    ap₂ (λ (fd : Field) (k : ℕ). record { field = fd; offset = k; wholeness = wholenessOf (o ∷ os) }) (sym (i .field-is)) (sym (i .offset-is))
+    ∙ ap (λ (w : Wholeness). record { field = g .field; offset = g .offset; wholeness = w }) (wholeness-same (o ∷ os) (g .wholeness) (i .wholeness-is))
 
 module _ (t : Table) (set : ℕ → Bool) (c : ℕ) (d : List ℕ) where
   pub content-of : ContentIs t set c d (contentOf t set c d)
@@ -73,60 +96,61 @@ module _ (t : Table) (set : ℕ → Bool) (m : List ℕ) (c : ℕ) where
   unfolding lookup
   lookup-is e = rw e
 
-  pub lookup-found : (a : IsAccepted m) → noCode c ≡ false → lookup t set m c ≡ shownFound t set (find c (a .options))
+  pub lookup-found : (a : IsAccepted m) → noCode c ≡ false → lookup t set m c ≡ shown t set c (pieces c (a .options))
   lookup-found a e = lookup-is e ∙ ap (answered t set c) (a .reads)
 
-  pub lookup-held : IsAccepted m → (h : Holds m c) → lookup t set m c ≡ Found (originOf (heldOption h)) (contentOf t set c (h .body))
-  unfolding shown
-  lookup-held a h = lookup-found a (held-asked h) ∙ ap (shownFound t set) (find-held a h)
+  pub lookup-pieces : {o : Opt} {os : List Opt} → IsAccepted m → PiecesOf m c (o ∷ os) → lookup t set m c ≡ Found (originOf o os) (contentOf t set c (endToEnd (o ∷ os)))
+  lookup-pieces a p = lookup-found a (held-asked (piece-held p)) ∙ ap (shown t set c) (the-pieces a p)
 
   to-shows : (g : Origin) (x : Content) → lookup t set m c ≡ Found g x → Shows t set m c g x
-  unfolding lookup shown
+  unfolding lookup
   to-shows g x e = start (noCode c) e
     where
-      these : (a : IsAccepted m) (o : Option Opt) → find c (a .options) ≡ o → shownFound t set o ≡ Found g x → Shows t set m c g x
-      these a none f z = clash (cc)
-      these a (some o) f z =
-          let i = find-some c (a .options) o f in
-          let h = held a c o (i .0) (i .1) in
-          let y : Found (originOf (heldOption (h .0))) (contentOf t set c (h .0 .body)) ≡ Found g x = ap (shown t set) (h .1) ∙ z in
-          let s = found-same y in
+      these : (a : IsAccepted m) (ps : List Opt) → PiecesOf m c ps → shown t set c ps ≡ Found g x → Shows t set m c g x
+      these a [] p z = clash (cc)
+      these a (o ∷ os) p z =
+          let s = found-same z in
           record {
             is-accepted = a;
-            held = h .0;
-            field-is = ap (λ (k : Origin). k .field) (sym (s .0));
-            offset-is = ap (λ (k : Origin). k .offset) (sym (s .0));
-            content-is = subst (ContentIs t set c (h .0 .body)) (s .1) (content-of t set c (h .0 .body));
+            first = o;
+            others = os;
+            are-pieces = p;
+            origin-is = subst (OriginIs o os) (s .0) (origin-of o os);
+            content-is = subst (ContentIs t set c (endToEnd (o ∷ os))) (s .1) (content-of t set c (endToEnd (o ∷ os)));
           }
 
       read : (w : Reading) → readMessage m ≡ w → answered t set c w ≡ Found g x → Shows t set m c g x
       read (refused n p) r z = clash (cc)
-      read (accepted os) r z = these (record { options = os; reads = r }) (find c os) refl z
+      read (accepted os) r z = let a : IsAccepted m = record { options = os; reads = r } in these a (pieces c os) (pieces-right m a c) z
 
       start : (b : Bool) → cond b (Refused 10 0) (answered t set c (readMessage m)) ≡ Found g x → Shows t set m c g x
       start true z = clash (cc)
       start false z = read (readMessage m) refl z
 
-  shown-origin : (g : Origin) (x : Content) (s : Shows t set m c g x) → originOf (heldOption (s .held)) ≡ g
-  shown-origin g x s = origin-same (heldOption (s .held)) g (s .field-is) (s .offset-is)
-
   from-shows : (g : Origin) (x : Content) → Shows t set m c g x → lookup t set m c ≡ Found g x
-  from-shows g x s = lookup-held (s .is-accepted) (s .held) ∙ ap₂ Found (shown-origin g x s) (content-same t set c (s .held .body) x (s .content-is))
+  from-shows g x s =
+      lookup-pieces (s .is-accepted) (s .are-pieces)
+      ∙ ap₂ Found (origin-same (s .first) (s .others) g (s .origin-is)) (content-same t set c (endToEnd (s .first ∷ s .others)) x (s .content-is))
 
 pub shows-what-stands : ShowsWhatStands
 shows-what-stands t set m c g x = (to-shows t set m c g x, from-shows t set m c g x)
 
-pub held-has-origin : HeldHasOrigin
-held-has-origin t set m c a h = record { origin = _; content = _; is-found = lookup-held t set m c a h }
-
 pub absent-iff-not-held : AbsentIffNotHeld
 absent-iff-not-held t set m c a l u = (
-  (λ e h. not-found (sym (lookup-held t set m c a h) ∙ e)),
-  (λ n. lookup-found t set m c a (asked c l u) ∙ ap (shownFound t set) (find-not-held a c n)),
+  (λ e h. here (pieces c (a .options)) refl h (sym (lookup-found t set m c a (asked c l u)) ∙ e)),
+  (λ n. lookup-found t set m c a (asked c l u) ∙ ap (shown t set c) (no-pieces a c n)),
 )
   where
-    not-found : {g : Origin} {x : Content} → Found g x ≡ Absent → ⊥
-    not-found e = clash (cc)
+    here : (ps : List Opt) → pieces c (a .options) ≡ ps → Holds m c → shown t set c ps ≡ Absent → ⊥
+    here [] e h z = held-iff-piece m c (pieces c (a .options)) (pieces-right m a c) .0 h e
+    here (o ∷ ps) e h z = clash (cc)
+
+pub held-has-origin : HeldHasOrigin
+held-has-origin t set m c a h = here (pieces c (a .options)) (pieces-right m a c)
+  where
+    here : (ps : List Opt) → PiecesOf m c ps → HasOrigin (lookup t set m c)
+    here [] p = absurd (held-iff-piece m c [] p .0 h refl)
+    here (o ∷ ps) p = record { origin = _; content = _; is-found = lookup-pieces t set m c a p }
 
 -- ---- the code byte
 
@@ -146,13 +170,15 @@ byte-at sname m i c r e = rw (← drop-drop i 44 m) (head-is i 64 c r (drop 44 m
 pub origin-is-the-code-byte : OriginIsTheCodeByte
 origin-is-the-code-byte t set m c g x e =
     let s = to-shows t set m c g x e in
-    let h : Holds m c = s .held in
-    subst (CodeByteAt m c) (shown-origin t set m c g x s)
+    let p = first-stands (s .are-pieces) in
+    let o : Opt = s .first in
+    let code : c ≡ o .item .tag = first-code (s .are-pieces) in
+    subst (CodeByteAt m c) (origin-same o (s .others) g (s .origin-is))
     (record {
-      is-active = h .active;
-      begins = h .stands .begins;
-      in-field = ap (λ (l : List ℕ). getD l 0 0) (h .stands .option .reads);
-      in-message = byte-at (h .field) m (h .offset) c _ (h .stands .option .reads);
+      is-active = p .active;
+      begins = p .stands .begins;
+      in-field = ap (λ (l : List ℕ). getD l 0 0) (p .stands .option .reads) ∙ sym code;
+      in-message = byte-at (o .field) m (o .offset) (o .item .tag) _ (p .stands .option .reads) ∙ sym code;
       start-is = refl;
     })
 
@@ -187,18 +213,17 @@ module _ (t : Table) (set : ℕ → Bool) (m : List ℕ) (c : ℕ) where
 
   from-row : {n p : ℕ} → LookupRow t set m c n p → GivesNumber (lookup t set m c) n p
   from-row {n} {p} (of-reader r) = subst (λ (y : Answer). GivesNumber y n p) (sym (from-reader r)) refuses
-  from-row {n} (row-8-9 a k h v) =
-      let z : contentOf t set c (h .body) ≡ known (broken n) = rw (k, v) in
-      subst (λ (y : Answer). GivesNumber y n (place (heldOption h))) (sym (lookup-held t set m c a h ∙ ap (Found (originOf (heldOption h))) z)) breaks
+  from-row {n} (row-8-9 {o = o} {os = os} a k q v) =
+      let z : contentOf t set c (endToEnd (o ∷ os)) ≡ known (broken n) = rw (k, v) in
+      subst (λ (y : Answer). GivesNumber y n (place o)) (sym (lookup-pieces t set m c a q ∙ ap (Found (originOf o os)) z)) breaks
 
   of-reading : (n p : ℕ) → 1 ≤ c → c ≤ 254 → (w : Reading) → readMessage m ≡ w → answered t set c w ≡ Refused n p → ReaderRow m c n p
-  unfolding shown
   of-reading n p l u (refused k q) e z = of-message l u (refused-by-the-table m n p .0 (e ∙ ap₂ refused (refused-same z .0) (refused-same z .1)))
-  of-reading n p l u (accepted os) e z = never (find c os) z
+  of-reading n p l u (accepted os) e z = never (pieces c os) z
     where
-      never : (o : Option Opt) → shownFound t set o ≡ Refused n p → ReaderRow m c n p
-      never none z = clash (cc)
-      never (some o) z = clash (cc)
+      never : (ps : List Opt) → shown t set c ps ≡ Refused n p → ReaderRow m c n p
+      never [] z = clash (cc)
+      never (o ∷ ps) z = clash (cc)
 
   of-refusal : (n p : ℕ) → c ≤ 255 → lookup t set m c ≡ Refused n p → ReaderRow m c n p
   unfolding lookup
@@ -211,8 +236,8 @@ module _ (t : Table) (set : ℕ → Bool) (m : List ℕ) (c : ℕ) where
   of-broken : (n : ℕ) (g : Origin) → lookup t set m c ≡ Found g (known (broken n)) → LookupRow t set m c n (codePlace g)
   of-broken n g e =
       let s = to-shows t set m c g (known (broken n)) e in
-      let b = content-broken t set c (s .held .body) (known (broken n)) n (s .content-is) refl in
-      subst (λ (h : Origin). LookupRow t set m c n (codePlace h)) (shown-origin t set m c g (known (broken n)) s) (row-8-9 (s .is-accepted) (b .0) (s .held) (b .1))
+      let b = content-broken t set c (endToEnd (s .first ∷ s .others)) (known (broken n)) n (s .content-is) refl in
+      subst (λ (h : Origin). LookupRow t set m c n (codePlace h)) (origin-same (s .first) (s .others) g (s .origin-is)) (row-8-9 (s .is-accepted) (b .0) (s .are-pieces) (b .1))
 
   to-row : (n p : ℕ) → c ≤ 255 → (y : Answer) → lookup t set m c ≡ y → GivesNumber y n p → LookupRow t set m c n p
   to-row n p h y e refuses = of-reader (of-refusal n p h e)
@@ -223,9 +248,13 @@ module _ (t : Table) (set : ℕ → Bool) (m : List ℕ) (c : ℕ) where
   unfolding lookup
   of-absent h e = go (noCode c) refl e
     where
+      these : (a : IsAccepted m) (ps : List Opt) → PiecesOf m c ps → shown t set c ps ≡ Absent → Holds m c → ⊥
+      these a [] p z k = held-iff-piece m c [] p .0 k refl
+      these a (o ∷ ps) p z k = clash (cc)
+
       read : (1 ≤ c) × (c ≤ 254) → (w : Reading) → readMessage m ≡ w → answered t set c w ≡ Absent → (1 ≤ c) × (c ≤ 254) × IsAccepted m × (Holds m c → ⊥)
       read x (refused n p) r z = clash (cc)
-      read x (accepted os) r z = let a : IsAccepted m = record { options = os; reads = r } in (x .0, x .1, a, absent-iff-not-held t set m c a (x .0) (x .1) .0 e)
+      read x (accepted os) r z = let a : IsAccepted m = record { options = os; reads = r } in (x .0, x .1, a, these a (pieces c os) (pieces-right m a c) z)
 
       go : (b : Bool) → noCode c ≡ b → cond b (Refused 10 0) (answered t set c (readMessage m)) ≡ Absent → (1 ≤ c) × (c ≤ 254) × IsAccepted m × (Holds m c → ⊥)
       go true q z = clash (cc)
@@ -248,14 +277,14 @@ lookup-is-correct t set m c x h = (to x, from x)
     from (Found g y) s = from-shows t set m c g y s
 
 pub known-set-indifferent : KnownSetIndifferent
-unfolding lookup shown
+unfolding lookup
 known-set-indifferent t t′ set set′ m c n p e = go (noCode c) (readMessage m) e
   where
-    never : (o : Option Opt) → shownFound t set o ≡ Refused n p → shownFound t′ set′ o ≡ Refused n p
-    never none z = clash (cc)
-    never (some o) z = clash (cc)
+    never : (ps : List Opt) → shown t set c ps ≡ Refused n p → shown t′ set′ c ps ≡ Refused n p
+    never [] z = clash (cc)
+    never (o ∷ ps) z = clash (cc)
 
     go : (b : Bool) (w : Reading) → cond b (Refused 10 0) (answered t set c w) ≡ Refused n p → cond b (Refused 10 0) (answered t′ set′ c w) ≡ Refused n p
     go true w z = z
     go false (refused k q) z = z
-    go false (accepted os) z = never (find c os) z
+    go false (accepted os) z = never (pieces c os) z

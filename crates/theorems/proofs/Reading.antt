@@ -1,23 +1,19 @@
 -- The statements of ReadingClaims, proved. Assumes nothing.
 use mathlib.Core.Path.{_≡_, refl, sym, ap, ap₂, _∙_, subst}
 use mathlib.Core.List.{List, [], _∷_}
-use mathlib.Core.Bool.{Bool, true, false, cond}
-use mathlib.Core.Option.{Option, none, some}
+use mathlib.Core.Bool.{cond}
 use mathlib.Core.Logic.{_⊎_, inl, inr, ⊎-elim}
 use Prim.Native.Nat.{ℕ, zero, suc, _+_, _≤_, _<_}
 use native.Mathlib.Omega.{arith}
 use lib.ListN.{length, take, drop, length-take}
 use lib.Seq.{drop-drop, take-at, take-take}
 use lib.Dec.{eqb}
-use borrow.Author.Tests.{eqb-true, eqb-false, ne-eqb}
-use Rattle.options.specs.Message.{Field, options, file, sname, start, bytes, turn, Opt, opt, place, dataStart, OptionAt, Stands, Holds, heldOption, Standing, Earlier}
-use Rattle.options.specs.Refusals.{same-field, field-before, When, within, Row, row-1, row-2, row-3, row-4, row-5, row-6, row-7, Before, by-part, by-offset, by-number, First}
-use Rattle.options.specs.Reading.{Reading, accepted, refused, readMessage, find}
-use Rattle.options.specs.Kinds.{Kind, address, addresses, pairs, flag, octet, number16, numbers16, unsigned32, signed32, text, opaque, Value, broken, number, part, Table, kinds, kindOf, judgedBy, judged, lengthFits, valueFits, meaning}
-use Rattle.options.specs.ReadingClaims.{RefusedByTheTable, IsAccepted, AcceptedByTheTable, OwnBytes, StandsOnce, In, Precedes, CorrectList, Correct, ReadingIsCorrect}
-use Rattle.theorems.proofs.View.{clash}
-use Rattle.theorems.proofs.Fields.{option-same, option-in, compare}
-use Rattle.theorems.proofs.Messages.{turn-same, two-ways, no-way, Clean, Upto, says}
+use Rattle.options.specs.Message.{Field, options, file, sname, start, bytes, turn, Opt, opt, dataStart, OptionAt, Stands, Holds, heldOption, Standing, Earlier, In, Precedes}
+use Rattle.options.specs.Refusals.{When, within, Row, row-1, row-2, row-3, row-4, row-5, row-6, row-7, Before, by-part, by-offset, by-number, First}
+use Rattle.options.specs.Reading.{Reading, accepted, refused, readMessage}
+use Rattle.options.specs.ReadingClaims.{RefusedByTheTable, IsAccepted, AcceptedByTheTable, OwnBytes, CorrectList, Correct, ReadingIsCorrect}
+use Rattle.theorems.proofs.Fields.{option-in, compare}
+use Rattle.theorems.proofs.Messages.{Clean, Upto, says}
 
 -- ---- the first row is one
 
@@ -136,35 +132,6 @@ module _ {m : List ℕ} (a : IsAccepted m) where
   pub holds-in : {c : ℕ} (h : Holds m c) → In (heldOption h) (a .options)
   holds-in h = stands-listed (a .reads) (heldOption h) (record { active = h .active; stands = h .stands })
 
-  -- a code does not stand at two places
-  one-field : {c : ℕ} (h k : Holds m c) → turn (h .field) < turn (k .field) → ⊥
-  one-field h k l = no-row-of (a .reads) _ _ _ (row-7 (k .field) (k .active) (k .stands) (field-before (h .field) l (h .active) (h .stands)))
-
-  one-offset : {c : ℕ} (h k : Holds m c) → h .field ≡ k .field → h .offset < k .offset → ⊥
-  one-offset {c} h k e l =
-      no-row-of (a .reads) _ _ _ (row-7 (k .field) (k .active) (k .stands) (same-field l (subst (λ (x : Field). Stands (bytes x m) (h .offset) c (h .body)) e (h .stands))))
-
-  once : {c : ℕ} (h k : Holds m c) → heldOption h ≡ heldOption k
-  once {c} h k = fields (compare (turn (h .field)) (turn (k .field)))
-    where
-      offsets : h .field ≡ k .field → (h .offset < k .offset) ⊎ ((h .offset ≡ k .offset) ⊎ (k .offset < h .offset)) → heldOption h ≡ heldOption k
-      offsets e (inl z) = absurd (one-offset h k e z)
-      offsets e (inr (inl z)) =
-          let b : h .body ≡ k .body =
-          option-same
-          (subst (λ (x : Field). OptionAt (bytes x m) (k .offset) c (h .body)) e (subst (λ (i : ℕ). OptionAt (bytes (h .field) m) i c (h .body)) z (h .stands .option)))
-          (k .stands .option) .1 in
-          cc
-      offsets e (inr (inr z)) = absurd (one-offset k h (sym e) z)
-
-      fields : (turn (h .field) < turn (k .field)) ⊎ ((turn (h .field) ≡ turn (k .field)) ⊎ (turn (k .field) < turn (h .field))) → heldOption h ≡ heldOption k
-      fields (inl z) = absurd (one-field h k z)
-      fields (inr (inl z)) = offsets (turn-same (h .field) (k .field) z) (compare (h .offset) (k .offset))
-      fields (inr (inr z)) = absurd (one-field k h z)
-
-pub stands-once : StandsOnce
-stands-once m c a h k = once a h k
-
 -- ---- the bytes of an option, in the message
 
 pub body-at : {f : List ℕ} {i c : ℕ} {d : List ℕ} → OptionAt f i c d → take (length d) (drop (i + 2) f) ≡ d
@@ -196,78 +163,9 @@ own-bytes m o s = go (o .field) (s .stands .option)
 pub listed-bytes : (m : List ℕ) {os : List Opt} → readMessage m ≡ accepted os → (o : Opt) → In o os → take (length (o .item .body)) (drop (dataStart o) m) ≡ o .item .body
 listed-bytes m e o i = own-bytes m o (listed-stands e o i)
 
--- ---- an option with a code
-
--- what is found is an option with the code, and nothing is found where there is none
-pub find-some : (c : ℕ) (os : List Opt) (o : Opt) → find c os ≡ some o → In o os × (c ≡ o .item .tag)
-unfolding find
-find-some c [] o e = clash (cc)
-find-some c (x ∷ os) o e = go (eqb c (x .item .tag)) refl e (find-some c os o)
-  where
-    go : (t : Bool) → eqb c (x .item .tag) ≡ t → cond t (some x) (find c os) ≡ some o → (find c os ≡ some o → In o os × (c ≡ o .item .tag)) → In o (x ∷ os) × (c ≡ o .item .tag)
-    go true q z ih = let y : o ≡ x = cc in (inl y, eqb-true c (x .item .tag) q ∙ ap (λ (v : Opt). v .item .tag) (sym y))
-    go false q z ih = (inr (ih z .0), ih z .1)
-
-pub find-none : (c : ℕ) (os : List Opt) → find c os ≡ none → (o : Opt) → In o os → c ≡ o .item .tag → ⊥
-unfolding find
-find-none c [] e o h q = h
-find-none c (x ∷ os) e o h q = go (eqb c (x .item .tag)) refl e h (find-none c os)
-  where
-    go : (t : Bool) → eqb c (x .item .tag) ≡ t → cond t (some x) (find c os) ≡ none → (o ≡ x) ⊎ In o os
-        → (find c os ≡ none → (o : Opt) → In o os → c ≡ o .item .tag → ⊥) → ⊥
-    go true r z h ih = clash (cc)
-    go false r z (inl y) ih = eqb-false c (x .item .tag) r (q ∙ ap (λ (v : Opt). v .item .tag) y)
-    go false r z (inr y) ih = ih z o y q
-
-module _ {m : List ℕ} (a : IsAccepted m) where
-  pub find-held : {c : ℕ} (h : Holds m c) → find c (a .options) ≡ some (heldOption h)
-  find-held {c} h = go (find c (a .options)) refl
-    where
-      go : (x : Option Opt) → find c (a .options) ≡ x → x ≡ some (heldOption h)
-      go none e = absurd (find-none c (a .options) e (heldOption h) (holds-in a h) refl)
-      go (some o) e =
-          let f = find-some c (a .options) o e in
-          let k = held a c o (f .0) (f .1) in
-          ap some (sym (k .1) ∙ once a (k .0) h)
-
-  pub find-not-held : (c : ℕ) → (Holds m c → ⊥) → find c (a .options) ≡ none
-  find-not-held c n = go (find c (a .options)) refl
-    where
-      go : (x : Option Opt) → find c (a .options) ≡ x → x ≡ none
-      go none e = refl
-      go (some o) e = let f = find-some c (a .options) o e in absurd (n (held a c o (f .0) (f .1) .0))
-
--- what a kind makes of data that fits it is not broken
-meaning-whole : (k : Kind) (d : List ℕ) (n : ℕ) → meaning k d ≡ broken n → ⊥
-unfolding meaning
-meaning-whole address d n e = clash (cc)
-meaning-whole addresses d n e = clash (cc)
-meaning-whole pairs d n e = clash (cc)
-meaning-whole flag d n e = clash (cc)
-meaning-whole octet d n e = clash (cc)
-meaning-whole number16 d n e = clash (cc)
-meaning-whole numbers16 d n e = clash (cc)
-meaning-whole unsigned32 d n e = clash (cc)
-meaning-whole signed32 d n e = clash (cc)
-meaning-whole text d n e = clash (cc)
-meaning-whole opaque d n e = clash (cc)
-
-pub broken-8-or-9 : (c : ℕ) (d : List ℕ) (n : ℕ) → kinds .value c d ≡ broken n → (n ≡ 8) ⊎ (n ≡ 9)
-unfolding judged
-broken-8-or-9 c d n e = go (kindOf c) e
-  where
-    rules : (k : Kind) (x y : Bool) → cond x (cond y (meaning k d) (broken 9)) (broken 8) ≡ broken n → (n ≡ 8) ⊎ (n ≡ 9)
-    rules k true true e = absurd (meaning-whole k d n e)
-    rules k true false e = inr (cc)
-    rules k false y e = inl (cc)
-
-    go : (o : Option Kind) → judgedBy o c d ≡ broken n → (n ≡ 8) ⊎ (n ≡ 9)
-    go none e = clash (cc)
-    go (some k) e = rules k (lengthFits k c (length d)) (valueFits k c d) e
-
 -- ---- no other reading is right
 
-same-list : (os ps : List Opt) → ((x : Opt) → In x os → In x ps) → ((x : Opt) → In x ps → In x os)
+pub same-list : (os ps : List Opt) → ((x : Opt) → In x os → In x ps) → ((x : Opt) → In x ps → In x os)
     → ((x y : Opt) → Precedes x y os → Precedes y x ps → ⊥) → ((x : Opt) → Precedes x x os → ⊥) → ((x : Opt) → Precedes x x ps → ⊥) → os ≡ ps
 same-list [] [] a b c d e = refl
 same-list [] (p ∷ ps) a b c d e = absurd (b p (inl refl))

@@ -4,8 +4,9 @@ use console::word;
 use dhcpopt_reader::PlainAnswer;
 use lookup::Answer;
 use lookup::Content;
+use lookup::Origin;
+use lookup::Wholeness;
 use message::Field;
-use message::Origin;
 
 const ALL: u64 = 18446744073709551615;
 
@@ -35,13 +36,31 @@ fn kind(c: Content) -> u32 {
     }
 }
 
-// Field, offset and kind, by their names.
+fn same_pieces(n: usize, c: PlainAnswer) -> bool {
+    if c.several != 1 {
+        return false;
+    }
+    c.whole == n
+}
+
+fn same_wholeness(w: Wholeness, c: PlainAnswer) -> bool {
+    match w {
+        Wholeness::InOne => c.several == 0,
+        Wholeness::InPieces(n) => same_pieces(n, c),
+    }
+}
+
+// Field, offset, wholeness and kind, by their names.
 fn same_found(origin: Origin, content: Content, c: PlainAnswer) -> bool {
     let f = origin.field;
     if field(f) != c.field {
         return false;
     }
     if origin.offset != c.offset {
+        return false;
+    }
+    let w = origin.wholeness;
+    if !same_wholeness(w, c) {
         return false;
     }
     kind(content) == c.kind

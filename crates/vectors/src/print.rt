@@ -71,6 +71,34 @@ fn answer(a: PlainAnswer) {
     content(a);
     named(14, a.field, 3);
     two(b"", a.offset, a.start);
+    if a.several == 1 {
+        one(b" several", a.whole as u64);
+    }
+}
+
+// The bytes that were copied: the code, how many, and their sum.
+fn copied(code: u8, size: usize, bytes: &[u8]) {
+    one(b"copy", code as u64);
+    number(size as u64);
+    number(sum(part(bytes, 0, size)));
+    word(b"\n");
+}
+
+// The line of the copy of a code into a lent buffer.
+pub fn copy(m: &[u8], code: u8, buffer: &mut [u8]) {
+    let f = dhcpopt_reader::dhcpopt_copy(m, code, buffer);
+    if f.refusal == 0 {
+        copied(code, f.size, buffer);
+        return;
+    }
+    one(b"copy", code as u64);
+    two(b" refused", f.refusal as usize, f.place);
+    word(b"\n");
+}
+
+fn copy_whole(m: &[u8], code: u8) {
+    let mut buffer = [0u8; 1472];
+    copy(m, code, &mut buffer);
 }
 
 // The line of the lookup of a code that the message holds, and what is compared besides.
@@ -82,8 +110,12 @@ pub fn look_up(m: &[u8], known: [u64; 4], code: u8) {
 // The line of a lookup.
 pub fn line(m: &[u8], known: [u64; 4], code: u8) {
     io::print_decimal(1, code as u64);
-    answer(dhcpopt_reader::dhcpopt_lookup(m, known[0], known[1], known[2], known[3], code));
+    let a = dhcpopt_reader::dhcpopt_lookup(m, known[0], known[1], known[2], known[3], code);
+    answer(a);
     word(b"\n");
+    if a.several == 1 {
+        copy_whole(m, code);
+    }
 }
 
 // The line of the codes present.

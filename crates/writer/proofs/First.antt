@@ -8,9 +8,9 @@ use borrow.Rule.Slice.PartMut.{putMid, midOf}
 use borrow.Author.Tests.{ne-eqb}
 use Rattle.options.specs.Message.{Rec}
 use Rattle.options.specs.Writing.{with52, pastOptions}
-use Rattle.plan.specs.Steps.{leftOver, From}
+use Rattle.plan.specs.Steps.{leftOver}
 use Rattle.plan.proofs.Sizes.{past}
-use Rattle.writer.specs.Fill.{filled}
+use Rattle.writer.specs.Fill.{filled, Left}
 use Rattle.field_writer.specs.Room.{withOption}
 use Rattle.field_writer.proofs.Bytes.{with-option}
 use Rattle.buffer.proofs.Copied.{mid-rest, put-rest}
@@ -20,9 +20,9 @@ abbrev pub option52 : ℕ → Rec
 option52 p = record { tag = 52; body = p ∷ [] }
 
 -- a plan without it
-pub alone : (s : List ℕ) (p n : ℕ) (rs : List Rec) (ys : List ℕ) (r : ℕ) → p ≡ 0 → ys ≡ filled n rs → From s (leftOver n rs) r → (ys ≡ filled n (with52 p rs)) × From s (pastOptions p n rs) r
+pub alone : (s : List ℕ) (single p n : ℕ) (rs : List Rec) (ys : List ℕ) (r : ℕ) → p ≡ 0 → ys ≡ filled n rs → Left s single (leftOver n rs) r → (ys ≡ filled n (with52 p rs)) × Left s single (pastOptions p n rs) r
 unfolding pastOptions
-alone s p n rs ys r z y q = rw z (y, q)
+alone s single p n rs ys r z y q = rw z (y, q)
 
 module _ (p : ℕ) (rs : List Rec) (z : p ≡ 0 → ⊥) where
   first : with52 p rs ≡ option52 p ∷ rs
@@ -46,5 +46,5 @@ module _ (p : ℕ) (rs : List Rec) (z : p ≡ 0 → ⊥) where
         ∙ sym (fill-more (length field) (option52 p) rs h)
         ∙ ap (filled (length field)) (sym first)
 
-    pub from52 : (s : List ℕ) (r : ℕ) → From s (leftOver (length (midOf 3 (length x - 3) x)) rs) r → From s (pastOptions p (length field) rs) r
-    from52 s r q = subst (λ (ts : List Rec). From s ts r) (ap (λ (k : ℕ). leftOver k rs) lent ∙ sym (past (length field) rs h p z)) q
+    pub from52 : (s : List ℕ) (single r : ℕ) → Left s single (leftOver (length (midOf 3 (length x - 3) x)) rs) r → Left s single (pastOptions p (length field) rs) r
+    from52 s single r q = subst (λ (ts : List Rec). Left s single ts r) (ap (λ (k : ℕ). leftOver k rs) lent ∙ sym (past (length field) rs h p z)) q

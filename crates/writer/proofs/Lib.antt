@@ -1,4 +1,5 @@
 pub mod Filling
+pub mod Quick
 pub mod First
 pub mod Plans
 pub mod Parts

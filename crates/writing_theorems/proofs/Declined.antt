@@ -16,13 +16,14 @@ use Rattle.options.specs.KindClaims.{AllBytes}
 use Rattle.options.specs.Sheet.{Listed, first}
 use Rattle.options.specs.SheetRefusals.{SheetRow, row-7}
 use Rattle.options.specs.SheetWalk.{AllShort, Sheet, sound, faulty}
-use Rattle.options.specs.Writing.{sheet, Wrote, wrote, declined, threeBeforeOne, placeOf3, planFits, plans, tryPlans, afterSheet, written, writer}
-use Rattle.options.specs.WriterClaims.{Permitted, Holding, step, WriteRow, write-1, write-2, write-15, write-16, write-record, write-14, write-11, FirstWriteRow, WriterSays, RefusesByTheTable, CorrectWrite, DeclinedIff}
+use Rattle.options.specs.Writing.{splitAll, sheet, Wrote, wrote, declined, threeBeforeOne, placeOf3, planFits, plans, tryPlans, afterSheet, written, writer}
+use Rattle.options.specs.WriterClaims.{SheetPieces, Permitted, Holding, step, WriteRow, write-1, write-2, write-15, write-16, write-record, write-14, write-11, FirstWriteRow, WriterSays, RefusesByTheTable, CorrectWrite, DeclinedIff}
 use Rattle.theorems.proofs.View.{clash}
 use Rattle.theorems.proofs.Reading.{order}
-use Rattle.writing_theorems.proofs.SheetLaws.{sound-sheet, same-sheet}
+use Rattle.writing_theorems.proofs.SheetLaws.{sound-sheet}
 use Rattle.writing_theorems.proofs.SheetRows.{FirstSheetRow, Judges, judges, three-first, three-later, same-number}
-use Rattle.writing_theorems.proofs.Writer.{writer-writes, Among, is-permitted, permitted-is, holding, fitting, fits-of}
+use Rattle.writing_theorems.proofs.Writer.{piecesOf, same-pieces, writer-writes, Among, is-permitted, permitted-is}
+use Rattle.writing_theorems.proofs.Plans.{holding, fitting, fits-of}
 
 module _ (t : Table) (s m : List ℕ) (permission : ℕ) where
   -- no row comes at a step before k
@@ -33,7 +34,7 @@ module _ (t : Table) (s m : List ℕ) (permission : ℕ) where
     l-16 : 4 < k → 4096 < length s → ⊥
     l-record : 5 < k → (n i q : ℕ) → SheetRow t s n i q → ⊥
     l-14 : 6 < k → (i j : ℕ) (d e : List ℕ) → Listed s i 3 d → i < j → Listed s j 1 e → ⊥
-    l-11 : 7 < k → (rs : List Rec) → s ≡ recordBytes rs → ((p : ℕ) → Permitted permission p → Holding p (length m - 240) rs → ⊥) → ⊥
+    l-11 : 7 < k → (x : SheetPieces s) → ((p : ℕ) → Permitted permission p → Holding p (length m - 240) (x .pieces) → ⊥) → ⊥
 
   none-early : (k : ℕ) → Late k → {n p : ℕ} {w : When} → WriteRow t s m permission n p w → w .part < k → ⊥
   none-early k f (write-1 h) l = f .l-1 l h
@@ -42,7 +43,7 @@ module _ (t : Table) (s m : List ℕ) (permission : ℕ) where
   none-early k f (write-16 h) l = f .l-16 l h
   none-early k f (write-record {n = n} {i = i} {rank = q} h) l = f .l-record l n i q h
   none-early k f (write-14 {i = i} {j = j} {d = d} {e = e} a b c) l = f .l-14 l i j d e a b c
-  none-early k f (write-11 rs e h) l = f .l-11 l rs e h
+  none-early k f (write-11 x h) l = f .l-11 l x h
 
   first-step : (k n p : ℕ) → Late k → WriteRow t s m permission n p (step k) → FirstWriteRow t s m permission n p
   first-step k n p f r = record { when = step k; applies = r; none-before = λ x b. none x b }
@@ -60,7 +61,7 @@ module _ (t : Table) (s m : List ℕ) (permission : ℕ) where
   at-5 (write-16 h) e = absurd (omega arith)
   at-5 (write-record h) e = h
   at-5 (write-14 a b c) e = absurd (omega arith)
-  at-5 (write-11 rs x h) e = absurd (omega arith)
+  at-5 (write-11 x h) e = absurd (omega arith)
 
   first-record : (n i : ℕ) → Late 5 → FirstSheetRow t s n i → FirstWriteRow t s m permission n i
   first-record n i f r = record { when = record { part = 5; offset = i; number = r .rank }; applies = write-record (r .applies); none-before = λ x b. none x b }
@@ -81,7 +82,7 @@ module _ (t : Table) (s m : List ℕ) (permission : ℕ) where
     at-6 (write-16 h) e = absurd (omega arith)
     at-6 (write-record h) e = absurd (omega arith)
     at-6 (write-14 {d = d} a b c) e = (d, a)
-    at-6 (write-11 rs x h) e = absurd (omega arith)
+    at-6 (write-11 x h) e = absurd (omega arith)
 
     first-14 : (i j : ℕ) (d e : List ℕ) → Late 6 → Listed s i 3 d → i < j → Listed s j 1 e → FirstWriteRow t s m permission 14 i
     first-14 i j d e f a l b = record { when = record { part = 6; offset = i; number = 0 }; applies = write-14 a l b; none-before = λ x y. none x y }
@@ -150,7 +151,7 @@ module _ (t : Table) (s m : List ℕ) (permission : ℕ) (h1 : 240 ≤ length m)
             l-11 = λ l. absurd (omega arith);
           }
 
-      late-8 : (q : ℕ) → Permitted permission q → Holding q (length m - 240) rs → Late t s m permission 8
+      late-8 : (q : ℕ) → Permitted permission q → Holding q (length m - 240) (splitAll rs) → Late t s m permission 8
       late-8 q a h =
           record {
             l-1 = λ l x. omega arith;
@@ -159,7 +160,7 @@ module _ (t : Table) (s m : List ℕ) (permission : ℕ) (h1 : 240 ≤ length m)
             l-16 = λ l x. omega arith;
             l-record = λ l. clean;
             l-14 = λ l. no-14;
-            l-11 = λ l ts e f. f q a (subst (Holding q (length m - 240)) (same-sheet rs ts (sym is ∙ e)) h);
+            l-11 = λ l x f. f q a (subst (Holding q (length m - 240)) (same-pieces s (piecesOf s rs is) x) h);
           }
 
       step-8 : {n p : ℕ} {w : When} → WriteRow t s m permission n p w → w .part < 8
@@ -169,31 +170,31 @@ module _ (t : Table) (s m : List ℕ) (permission : ℕ) (h1 : 240 ≤ length m)
       step-8 (write-16 h) = omega arith
       step-8 (write-record h) = omega arith
       step-8 (write-14 a b c) = omega arith
-      step-8 (write-11 ts x h) = omega arith
+      step-8 (write-11 x h) = omega arith
 
-      plans-say : (x : Wrote) → Tried m rs (plans permission) x → WriterSays t s m permission x
+      plans-say : (x : Wrote) → Tried m (splitAll rs) (plans permission) x → WriterSays t s m permission x
       plans-say (declined n p) y =
           subst (λ (k : ℕ). FirstWriteRow t s m permission k p) (sym (y .0))
           (subst (λ (k : ℕ). FirstWriteRow t s m permission 11 k) (sym (y .1))
           (first-step t s m permission 7 11 (length m) late-7
-          (write-11 rs is (λ q a h. clash (let f = y .2 q (permitted-is permission q a) in let g = fitting q (length m - 240) rs h in cc)))))
+          (write-11 (piecesOf s rs is) (λ q a h. clash (let f = y .2 q (permitted-is permission q a) in let g = fitting q (length m - 240) (splitAll rs) h in cc)))))
       plans-say (wrote q w) y =
-          λ n p x r. none-early t s m permission 8 (late-8 q (is-permitted permission q h3 (y .0)) (holding q (length m - 240) rs (fits-of q (length m - 240) rs (y .1)))) r (step-8 r)
+          λ n p x r. none-early t s m permission 8 (late-8 q (is-permitted permission q h3 (y .0)) (holding q (length m - 240) (splitAll rs) (fits-of q (length m - 240) (splitAll rs) (y .1)))) r (step-8 r)
 
-    sound-says : WriterSays t s m permission (cond (threeBeforeOne rs) (declined 14 (placeOf3 rs)) (tryPlans (plans permission) m rs))
+    sound-says : WriterSays t s m permission (cond (threeBeforeOne rs) (declined 14 (placeOf3 rs)) (tryPlans (plans permission) m (splitAll rs)))
     sound-says = go (threeBeforeOne rs) refl
       where
-        go : (b : Bool) → threeBeforeOne rs ≡ b → WriterSays t s m permission (cond b (declined 14 (placeOf3 rs)) (tryPlans (plans permission) m rs))
+        go : (b : Bool) → threeBeforeOne rs ≡ b → WriterSays t s m permission (cond b (declined 14 (placeOf3 rs)) (tryPlans (plans permission) m (splitAll rs)))
         go true e =
             let r = three-first s 0 rs short first is e in
             let z : 0 + placeOf3 rs ≡ placeOf3 rs = omega arith in
             subst (λ (k : ℕ). FirstWriteRow t s m permission 14 k) z (first-14 t s m permission clean (0 + placeOf3 rs) (r .2) (r .0) (r .1) late-6 (r .3) (r .4) (r .5))
         go false e =
-            plans-say (λ i j d f a l b. three-later s (once t s m permission clean) i j d f rs short is e a l b) (tryPlans (plans permission) m rs) (tried m rs (plans permission))
+            plans-say (λ i j d f a l b. three-later s (once t s m permission clean) i j d f rs short is e a l b) (tryPlans (plans permission) m (splitAll rs)) (tried m (splitAll rs) (plans permission))
 
-  sheet-says : (x : Sheet) → sheet t s ≡ x → Judges t s x → WriterSays t s m permission (afterSheet m permission x)
-  sheet-says (faulty n p) e j = first-record t s m permission n p late-5 j
-  sheet-says (sound rs) e j = let f = sound-sheet t s rs e in sound-says rs (f .short) (sym (f .back)) j
+  sheet-says : (x : Sheet) → AllBytes s → sheet t s ≡ x → Judges t s x → WriterSays t s m permission (afterSheet m permission x)
+  sheet-says (faulty n p) all e j = first-record t s m permission n p late-5 j
+  sheet-says (sound rs) all e j = let f = sound-sheet t s rs e in sound-says rs (f .short) (f .back all) j
 
 pub refuses-by-the-table : RefusesByTheTable
 unfolding writer
@@ -238,12 +239,12 @@ refuses-by-the-table t s m permission all = go (ltb (length m) 240) (ltb 1472 (l
       l-11 = λ l. absurd (omega arith);
     }) (write-16 (ltb-true _ _ ed))
     go false false false false ea eb ec ed =
-        sheet-says t s m permission (ltb-false (length m) 240 ea) (ltb-false 1472 (length m) eb) (ltb-false 3 permission ec) (ltb-false 4096 (length s) ed) (sheet t s) refl (judges t s all)
+        sheet-says t s m permission (ltb-false (length m) 240 ea) (ltb-false 1472 (length m) eb) (ltb-false 3 permission ec) (ltb-false 4096 (length s) ed) (sheet t s) all refl (judges t s all)
 
 -- one half of WriterIsCorrect
 pub writer-correct : (t : Table) (s m : List ℕ) (permission : ℕ) (x : Wrote) → AllBytes s → writer t s m permission ≡ x → CorrectWrite t s m permission x
 writer-correct t s m permission (declined n p) all e = subst (WriterSays t s m permission) e (refuses-by-the-table t s m permission all)
-writer-correct t s m permission (wrote q w) all e = (subst (WriterSays t s m permission) e (refuses-by-the-table t s m permission all), writer-writes t s m permission q w e)
+writer-correct t s m permission (wrote q w) all e = (subst (WriterSays t s m permission) e (refuses-by-the-table t s m permission all), writer-writes t s m permission q w all e)
 
 -- ---- the first row is one
 
@@ -261,7 +262,7 @@ module _ {t : Table} {s m : List ℕ} {permission : ℕ} where
   place-told (write-16 h) = refl
   place-told (write-record h) = refl
   place-told (write-14 a b c) = refl
-  place-told (write-11 rs e h) = refl
+  place-told (write-11 x h) = refl
 
   number-told : {n p : ℕ} {w : When} → WriteRow t s m permission n p w → (w .part ≡ 5 → ⊥) → n ≡ stepNumber (w .part)
   number-told (write-1 h) x = refl
@@ -270,7 +271,7 @@ module _ {t : Table} {s m : List ℕ} {permission : ℕ} where
   number-told (write-16 h) x = refl
   number-told (write-record h) x = absurd (x refl)
   number-told (write-14 a b c) x = refl
-  number-told (write-11 rs e h) x = refl
+  number-told (write-11 y h) x = refl
 
   same-row : {n p k q : ℕ} {w x : When} → w ≡ x → WriteRow t s m permission n p w → WriteRow t s m permission k q x → (n ≡ k) × (p ≡ q)
   same-row {n} {p} {k} {q} {w} {x} e a b = (go (eqb (w .part) 5) refl, place-told a ∙ ap (stepPlace s m) e ∙ sym (place-told b))

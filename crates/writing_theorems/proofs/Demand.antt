@@ -5,27 +5,32 @@ use mathlib.Core.Bool.{Bool, true, false, cond}
 use mathlib.Core.Logic.{inl, inr, _↔_}
 use Prim.Native.Nat.{ℕ, _-_, _≤_}
 use native.Mathlib.Omega.{arith}
-use lib.ListN.{length, take, drop}
+use lib.ListN.{length, take}
 use lib.Dec.{ltb, leb, eqb}
 use borrow.Author.Tests.{ltb-false, le-ltb}
-use Rattle.options.specs.Message.{Rec, Opt, Holds, heldOption}
-use Rattle.options.specs.Reading.{accepted, items, readMessage}
+use Rattle.options.specs.Message.{Rec, Opt, PiecesOf, endToEnd}
+use Rattle.options.specs.Reading.{accepted, items, readMessage, pieces}
 use Rattle.options.specs.Kinds.{Table, Value, broken, number, part, Proper, kinds}
+use Rattle.options.specs.KindClaims.{AllBytes}
 use Rattle.options.specs.CodeSet.{marked}
-use Rattle.options.specs.Answers.{Origin, startOf, known, Absent, Found, isKnown, originOf, contentOf, lookup, recordBytes, but52, filledWith}
-use Rattle.options.specs.ReadingClaims.{IsAccepted, In}
+use Rattle.options.specs.Answers.{Origin, known, Answer, Absent, Found, isKnown, originOf, contentOf, shown, lookup, recordBytes, but52, joinedRecords, sheetRecords, filledWith}
+use Rattle.options.specs.ReadingClaims.{IsAccepted}
+use Rattle.options.specs.AnswerClaims.{JoinedBytes, GivesLength}
 use Rattle.options.specs.SheetWalk.{AllShort, Sheet, sound, faulty, isBroken}
-use Rattle.options.specs.Writing.{with52, written, pastSname, sheet, Wrote, wrote, declined, isNil, planFits, threeBeforeOne, placeOf3, plans, tryPlans, afterSheet, writer}
-use Rattle.options.specs.WritingClaims.{RecordIn, NoRecord, SameRecord, WrittenIsAccepted, SheetComesBack, bytesAt, SameButPlace, both-absent, both-found, IsKind, is-number, is-part, ReadsAsUnknown, Demand3, Demand3OfKinds}
+use Rattle.options.specs.Writing.{with52, splitUp, splitAll, written, pastSname, sheet, Wrote, wrote, declined, isNil, planFits, threeBeforeOne, placeOf3, plans, tryPlans, afterSheet, writer}
+use Rattle.options.specs.WriterClaims.{Has, allData}
+use Rattle.options.specs.WritingClaims.{RecordIn, NoRecord, SameRecord, WrittenIsAccepted, SheetComesBack, BytesOf, SameButPlace, both-absent, both-found, IsKind, is-number, is-part, wholenessFor, ReadsAsUnknown, Demand3, Demand3OfKinds}
 use Rattle.theorems.proofs.View.{clash}
-use Rattle.theorems.proofs.Reading.{held, holds-in, own-bytes}
-use Rattle.theorems.proofs.Lookup.{absent-iff-not-held, lookup-held, content-of}
-use Rattle.theorems.proofs.Parts.{less, length-within}
+use Rattle.theorems.proofs.Pieces.{pieces-right}
+use Rattle.theorems.proofs.Lookup.{asked, lookup-found}
+use Rattle.theorems.proofs.Parts.{shown-bytes}
 use Rattle.theorems.proofs.KindRules.{kinds-proper}
 use Rattle.theorems.proofs.Sheets.{records-is}
-use Rattle.writing_theorems.proofs.Written.{Distinct, Fits, read-written, items-written}
+use Rattle.writing_theorems.proofs.Written.{AllPlain, Fits, read-written, items-written}
 use Rattle.writing_theorems.proofs.SheetView.{rec}
-use Rattle.writing_theorems.proofs.SheetLaws.{Sound, sound-sheet, AllKinds, Has, kind-of}
+use Rattle.writing_theorems.proofs.Splitting.{all-plain}
+use Rattle.writing_theorems.proofs.Joining.{Fresh, records-back, withCode, pieces-items, of-none, of-record, of-plan, end-items, split-data, split-some, whole-told}
+use Rattle.writing_theorems.proofs.SheetLaws.{Sound, sound-sheet, AllKinds, kind-of}
 use Rattle.writing_theorems.proofs.SheetRows.{has-record, record-has}
 
 -- a refusal that is not there
@@ -78,30 +83,32 @@ small-plans permission = go (eqb permission 0) (eqb permission 1) (eqb permissio
 record Accepted (t : Table) (s w : List ℕ) : Type 0 where
   plan : ℕ
   records : List Rec
-  is-sheet : s ≡ recordBytes records
-  distinct : Distinct [] records
+  is-sheet : AllBytes s → s ≡ recordBytes records
+  plain : AllPlain records
+  fresh : Fresh [] records
   short : AllShort records
   in-kinds : AllKinds t records
   opts : List Opt
   reads : readMessage w ≡ accepted opts
-  in-order : items opts ≡ with52 plan records
+  in-order : items opts ≡ with52 plan (splitAll records)
 
 after : (t : Table) (s m : List ℕ) (permission q : ℕ) (w : List ℕ) (x : Sheet) → sheet t s ≡ x → 240 ≤ length m → length m ≤ 1472 → afterSheet m permission x ≡ wrote q w → Accepted t s w
 after t s m permission q w (faulty n p) x h l e = clash (cc)
 after t s m permission q w (sound rs) x h l e =
-    let r : (threeBeforeOne rs ≡ false) × (tryPlans (plans permission) m rs ≡ wrote q w) = passed (threeBeforeOne rs) 14 (placeOf3 rs) _ q w e in
-    let u : Used q w m rs = used (plans permission) m rs q w (small-plans permission) (r .1) in
-    let f : Sound t s [] 0 rs = sound-sheet t s rs x in
+    let r : (threeBeforeOne rs ≡ false) × (tryPlans (plans permission) m (splitAll rs) ≡ wrote q w) = passed (threeBeforeOne rs) 14 (placeOf3 rs) _ q w e in
+    let u : Used q w m (splitAll rs) = used (plans permission) m (splitAll rs) q w (small-plans permission) (r .1) in
+    let f : Sound t s rs = sound-sheet t s rs x in
     record {
       plan = q;
       records = rs;
-      is-sheet = sym (f .back);
-      distinct = f .distinct;
+      is-sheet = f .back;
+      plain = f .plain;
+      fresh = f .fresh;
       short = f .short;
       in-kinds = f .in-kinds;
       opts = _;
-      reads = ap readMessage (u .is-written) ∙ read-written q m rs (u .small) h (u .fits) l (f .distinct);
-      in-order = items-written q (length m - 240) rs (u .fits .none-left);
+      reads = ap readMessage (u .is-written) ∙ read-written q m (splitAll rs) (u .small) h (u .fits) l (all-plain rs (f .plain));
+      in-order = items-written q (length m - 240) (splitAll rs) (u .fits .none-left);
     }
 
 accepts : (t : Table) (s m : List ℕ) (permission q : ℕ) (w : List ℕ) → writer t s m permission ≡ wrote q w → Accepted t s w
@@ -115,102 +122,83 @@ accepts t s m permission q w e =
 
 -- ---- the sheet comes back
 
-but52-same : (seen : List ℕ) (rs : List Rec) → Distinct seen rs → but52 rs ≡ rs
-unfolding but52
-but52-same seen [] d = refl
-but52-same seen (r ∷ rs) d = rw (d .0 .no-52) (ap (λ (l : List Rec). r ∷ l) (but52-same (r .tag ∷ seen) rs (d .1)))
-
-but52-plan : (p : ℕ) (rs : List Rec) → but52 (with52 p rs) ≡ but52 rs
-unfolding but52
-but52-plan p rs = go (eqb p 0)
-  where
-    go : (b : Bool) → but52 (cond b rs (record { tag = 52; body = p ∷ [] } ∷ rs)) ≡ but52 rs
-    go true = refl
-    go false = refl
-
 pub written-is-accepted : WrittenIsAccepted
 written-is-accepted t s m permission q w e = let a : Accepted t s w = accepts t s m permission q w e in record { options = a .opts; reads = a .reads }
 
 pub sheet-comes-back : SheetComesBack
-sheet-comes-back t s m permission q w old e l =
+unfolding sheetRecords
+sheet-comes-back t s m permission q w old all e l =
     let a : Accepted t s w = accepts t s m permission q w e in
-    let is : recordBytes (but52 (items (a .opts))) ≡ s =
-    ap (λ (x : List Rec). recordBytes (but52 x)) (a .in-order) ∙ ap recordBytes (but52-plan (a .plan) (a .records) ∙ but52-same [] (a .records) (a .distinct)) ∙ sym (a .is-sheet) in
+    let records-are : sheetRecords (a .opts) ≡ a .records = ap (λ (x : List Rec). but52 (joinedRecords [] x)) (a .in-order) ∙ records-back (a .plan) (a .records) (a .plain) (a .fresh) in
+    let is : recordBytes (sheetRecords (a .opts)) ≡ s = ap recordBytes records-are ∙ sym (a .is-sheet all) in
     records-is w old (a .reads) ∙ ap (λ (x : List ℕ). filledWith x old) is ∙ rw (le-ltb (length old) (length s) l)
 
--- ---- what the message holds are the sheet's records
+-- ---- what the lookup finds are the sheet's records
 
-in-items : (o : Opt) (os : List Opt) → In o os → Has (o .item) (items os)
+no-items : (os : List Opt) → items os ≡ [] → os ≡ []
 unfolding items
-in-items o [] h = absurd h
-in-items o (x ∷ os) (inl e) = inl (ap (λ (y : Opt). y .item) e)
-in-items o (x ∷ os) (inr h) = inr (in-items o os h)
+no-items [] e = refl
+no-items (o ∷ os) e = clash (cc)
 
-items-in : (r : Rec) (os : List Opt) → Has r (items os) → (o : Opt) × In o os × (r ≡ o .item)
+items-none : items [] ≡ []
 unfolding items
-items-in r [] h = absurd h
-items-in r (x ∷ os) (inl e) = (x, inl refl, e)
-items-in r (x ∷ os) (inr h) = let t = items-in r os h in (t .0, inr (t .1), t .2)
+items-none = refl
 
-has-plan : (c p : ℕ) (d : List ℕ) (rs : List Rec) → (c ≡ 52 → ⊥) → Has (rec c d) (with52 p rs) → Has (rec c d) rs
-has-plan c p d rs n h = go (eqb p 0) h
-  where
-    go : (b : Bool) → Has (rec c d) (cond b rs (record { tag = 52; body = p ∷ [] } ∷ rs)) → Has (rec c d) rs
-    go true h = h
-    go false (inl e) = absurd (n (ap (λ (x : Rec). x .tag) e))
-    go false (inr h) = h
+-- the answer for a record with the data d
+record Shown (t : Table) (set : ℕ → Bool) (c : ℕ) (d w : List ℕ) (a : Answer) : Type 0 where
+  origin : Origin
+  is : a ≡ Found origin (contentOf t set c d)
+  told : origin .wholeness ≡ wholenessFor d
+  joined : JoinedBytes w c d
 
-plan-has : (p : ℕ) (r : Rec) (rs : List Rec) → Has r rs → Has r (with52 p rs)
-plan-has p r rs h = go (eqb p 0)
-  where
-    go : (b : Bool) → Has r (cond b rs (record { tag = 52; body = p ∷ [] } ∷ rs))
-    go true = h
-    go false = inr h
-
-module _ (t : Table) (s w : List ℕ) (a : Accepted t s w) (c : ℕ) (n52 : c ≡ 52 → ⊥) where
+module _ (t : Table) (s w : List ℕ) (all : AllBytes s) (a : Accepted t s w) (c : ℕ) (n52 : c ≡ 52 → ⊥) where
   abbrev msg : IsAccepted w
   msg = record { options = a .opts; reads = a .reads }
 
-  -- held by the message: in the sheet
-  held-record : (h : Holds w c) → RecordIn c (h .body) s
-  held-record h =
-      let x : Has (rec c (h .body)) (items (a .opts)) = in-items _ (a .opts) (holds-in msg h) in
-      let y : Has (rec c (h .body)) (a .records) = has-plan c (a .plan) (h .body) (a .records) n52 (subst (Has (rec c (h .body))) (a .in-order) x) in
-      subst (λ (l : List ℕ). RecordIn c (h .body) l) (sym (a .is-sheet)) (has-record c (h .body) (a .records) (a .short) y)
+  of-sheet : items (pieces c (a .opts)) ≡ withCode c (splitAll (a .records))
+  of-sheet = pieces-items c (a .opts) ∙ ap (withCode c) (a .in-order) ∙ of-plan c (a .plan) (splitAll (a .records)) n52
 
   in-records : (d : List ℕ) → RecordIn c d s → Has (rec c d) (a .records)
-  in-records d r = record-has c d s (a .records) (a .short) r (a .is-sheet)
+  in-records d r = record-has c d s (a .records) (a .short) r (a .is-sheet all)
 
-  -- in the sheet: held by the message, with the same data
-  record-held : (d : List ℕ) → RecordIn c d s → (h : Holds w c) × (h .body ≡ d)
-  record-held d r =
-      let x : Has (rec c d) (items (a .opts)) = subst (Has (rec c d)) (sym (a .in-order)) (plan-has (a .plan) (rec c d) (a .records) (in-records d r)) in
-      let o = items-in (rec c d) (a .opts) x in
-      let k = held msg c (o .0) (o .1) (ap (λ (y : Rec). y .tag) (o .2)) in
-      (k .0, ap (λ (y : Opt). y .item .body) (k .1) ∙ ap (λ (y : Rec). y .body) (sym (o .2)))
+  of-record-in : (d : List ℕ) → RecordIn c d s → items (pieces c (a .opts)) ≡ splitUp (length d) c d
+  of-record-in d r = of-sheet ∙ of-record c d [] (a .records) (a .fresh) (in-records d r)
+
+  none-in : NoRecord c s → pieces c (a .opts) ≡ []
+  none-in n =
+      no-items (pieces c (a .opts))
+      (of-sheet ∙ of-none c (a .records) (λ d h. n d (subst (λ (l : List ℕ). RecordIn c d l) (sym (a .is-sheet all)) (has-record c d (a .records) (a .short) h))))
 
   module _ (set : ℕ → Bool) (l : 1 ≤ c) (u : c ≤ 254) where
+    lookup-is : lookup t set w c ≡ shown t set c (pieces c (a .opts))
+    lookup-is = lookup-found t set w c msg (asked c l u)
+
+    -- a record is shown with its bytes
+    record-shown : (d : List ℕ) → RecordIn c d s → Shown t set c d w (lookup t set w c)
+    record-shown d r = go (pieces c (a .opts)) refl
+      where
+        go : (ps : List Opt) → pieces c (a .opts) ≡ ps → Shown t set c d w (lookup t set w c)
+        go [] e = absurd (split-some (length d) c d (sym (of-record-in d r) ∙ ap items e ∙ items-none))
+        go (o ∷ os) e =
+            let i : items (o ∷ os) ≡ splitUp (length d) c d = ap items (sym e) ∙ of-record-in d r in
+            let b : endToEnd (o ∷ os) ≡ d = end-items (o ∷ os) ∙ ap allData i ∙ split-data (length d) c d in
+            record {
+              origin = originOf o os;
+              is = lookup-is ∙ ap (shown t set c) e ∙ ap (λ (x : List ℕ). Found (originOf o os) (contentOf t set c x)) b;
+              told = whole-told c d (o ∷ os) i;
+              joined = record { first = o; others = os; are-pieces = subst (PiecesOf w c) e (pieces-right w msg c); joined = b };
+            }
+
     -- absent exactly where the sheet has no record
     absent-record : lookup t set w c ≡ Absent ↔ NoRecord c s
     absent-record =
-        let i = absent-iff-not-held t set w c msg l u in
-        ((λ e d r. i .0 e (record-held d r .0)), (λ n. i .1 (λ h. n (h .body) (held-record h))))
-
-    -- a record is shown as an option of the message, with its bytes there
-    record-shown : (d : List ℕ) → RecordIn c d s → (g : Origin) × (lookup t set w c ≡ Found g (contentOf t set c d)) × (bytesAt w g (length d) ≡ d)
-    record-shown d r =
-        let h = record-held d r in
-        let k : Holds w c = h .0 in (
-          originOf (heldOption k),
-          lookup-held t set w c msg k ∙ ap (λ (x : List ℕ). Found (originOf (heldOption k)) (contentOf t set c x)) (h .1),
-          subst (λ (x : List ℕ). bytesAt w (originOf (heldOption k)) (length x) ≡ x) (h .1) (own-bytes w (heldOption k) (record { active = k .active; stands = k .stands })),
-        )
+        ((λ e d r. let h = record-shown d r in let z : Absent ≡ Found (h .origin) (contentOf t set c d) = sym e ∙ h .is in clash (cc)), (λ n. lookup-is ∙ ap (shown t set c) (none-in n)))
 
     reads-as-unknown : isKnown t set c ≡ false → ReadsAsUnknown t set c s w
     reads-as-unknown k =
         record {
           absent-iff = absent-record;
-          else-unknown = λ d r. let h = record-shown d r in (h .0, h .1 ∙ rw k, h .2);
+          else-unknown = λ d r. let h = record-shown d r in record { origin = h .origin; is = h .is ∙ rw k; pieces-told = h .told; joined = h .joined };
         }
 
     unbroken : isKnown t set c ≡ true → (d : List ℕ) → RecordIn c d s → isBroken (t .value c d) ≡ false
@@ -223,17 +211,15 @@ module _ (t : Table) (s w : List ℕ) (a : Accepted t s w) (c : ℕ) (n52 : c �
 
 -- ---- demand 3
 
--- one record read from two messages
-same-shown : (t : Table) → Proper t → (set : ℕ → Bool) (c : ℕ) (d w w′ : List ℕ) (g g′ : Origin) → bytesAt w g (length d) ≡ d → bytesAt w′ g′ (length d) ≡ d
-    → SameButPlace w w′ (Found g (contentOf t set c d)) (Found g′ (contentOf t set c d))
-same-shown t proper set c d w w′ g g′ e e′ =
-    both-found
-    (λ n l.
-    let h : n ≤ length d = length-within proper (contentOf t set c d) (contentOf t set c d) n (content-of t set c d) refl l in
-    less n d (drop (startOf g) w) h e ∙ sym (less n d (drop (startOf g′) w′) h e′))
+-- the bytes that an answer gives are the record's
+bytes-given : (t : Table) → Proper t → (set : ℕ → Bool) (c : ℕ) (d w : List ℕ) (n : ℕ) → JoinedBytes w c d → GivesLength (contentOf t set c d) n → BytesOf w c n (take n d)
+bytes-given t proper set c d w n j g = record { body = d; joined = j; enough = within g; firsts = refl }
+  where
+    within : GivesLength (contentOf t set c d) n → n ≤ length d
+    within = subst (λ (x : List ℕ). GivesLength (contentOf t set c x) n → n ≤ length x) (j .joined) (shown-bytes t proper set w c (j .are-pieces) .within n)
 
-kind-shown : (t : Table) (set : ℕ → Bool) (c : ℕ) → isKnown t set c ≡ true → (d : List ℕ) → isBroken (t .value c d) ≡ false → (g : Origin) → IsKind (Found g (contentOf t set c d))
-kind-shown t set c k d unbroken g = rw k (go (t .value c d) unbroken)
+kind-shown : (t : Table) (set : ℕ → Bool) (c : ℕ) (d : List ℕ) (g : Origin) → isKnown t set c ≡ true → isBroken (t .value c d) ≡ false → IsKind (Found g (contentOf t set c d))
+kind-shown t set c d g k unbroken = rw k (go (t .value c d) unbroken)
   where
     go : (v : Value) → isBroken v ≡ false → IsKind (Found g (known v))
     go (broken n) b = clash (cc)
@@ -241,9 +227,9 @@ kind-shown t set c k d unbroken g = rw k (go (t .value c d) unbroken)
     go (part x n) b = is-part
 
 pub demand-3 : Demand3
-demand-3 t proper set s s′ m m′ permission permission′ plan plan′ w w′ e e′ same-records c l u n52 = (
-  (λ k. record { same = same (same-records c k); absent-iff = absent (same-records c k); else-kind = kind k }),
-  (λ k. (reads-as-unknown t s w a c n52 set l u k, reads-as-unknown t s′ w′ a′ c n52 set l u k)),
+demand-3 t proper set s s′ m m′ permission permission′ plan plan′ w w′ all all′ e e′ same-records c l u n52 = (
+  (λ k. record { same = same (same-records c k); absent-iff = nowhere (same-records c k); else-kind = kind k }),
+  (λ k. (reads-as-unknown t s w all a c n52 set l u k, reads-as-unknown t s′ w′ all′ a′ c n52 set l u k)),
 )
   where
     a : Accepted t s w
@@ -253,26 +239,28 @@ demand-3 t proper set s s′ m m′ permission permission′ plan plan′ w w′
     a′ = accepts t s′ m′ permission′ plan′ w′ e′
 
     gone : lookup t set w c ≡ Absent ↔ NoRecord c s
-    gone = absent-record t s w a c n52 set l u
+    gone = absent-record t s w all a c n52 set l u
 
     gone′ : lookup t set w′ c ≡ Absent ↔ NoRecord c s′
-    gone′ = absent-record t s′ w′ a′ c n52 set l u
+    gone′ = absent-record t s′ w′ all′ a′ c n52 set l u
 
-    absent : SameRecord c s s′ → lookup t set w c ≡ Absent ↔ (NoRecord c s × NoRecord c s′)
-    absent (inl n) = ((λ x. n), (λ x. gone .1 (x .0)))
-    absent (inr r) = ((λ x. absurd (gone .0 x (r .0) (r .1))), (λ x. gone .1 (x .0)))
+    nowhere : SameRecord c s s′ → lookup t set w c ≡ Absent ↔ (NoRecord c s × NoRecord c s′)
+    nowhere (inl n) = ((λ x. n), (λ x. gone .1 (x .0)))
+    nowhere (inr r) = ((λ x. absurd (gone .0 x (r .0) (r .1))), (λ x. gone .1 (x .0)))
 
-    same : SameRecord c s s′ → SameButPlace w w′ (lookup t set w c) (lookup t set w′ c)
+    same : SameRecord c s s′ → SameButPlace w w′ c (lookup t set w c) (lookup t set w′ c)
     same (inl n) = rw (gone .1 (n .0), gone′ .1 (n .1)) both-absent
     same (inr r) =
-        let h = record-shown t s w a c n52 set l u (r .0) (r .1) in
-        let h′ = record-shown t s′ w′ a′ c n52 set l u (r .0) (r .2) in
-        rw (h .1, h′ .1) (same-shown t proper set c (r .0) w w′ (h .0) (h′ .0) (h .2) (h′ .2))
+        let h = record-shown t s w all a c n52 set l u (r .0) (r .1) in
+        let h′ = record-shown t s′ w′ all′ a′ c n52 set l u (r .0) (r .2) in
+        rw (h .is, h′ .is)
+        (both-found (h .told ∙ sym (h′ .told))
+        (λ n g. (take n (r .0), bytes-given t proper set c (r .0) w n (h .joined) g, bytes-given t proper set c (r .0) w′ n (h′ .joined) g)))
 
     kind : isKnown t set c ≡ true → (d : List ℕ) → RecordIn c d s → IsKind (lookup t set w c)
     kind k d r =
-        let h = record-shown t s w a c n52 set l u d r in
-        rw (h .1) (kind-shown t set c k d (unbroken t s w a c n52 set l u k d r) (h .0))
+        let h = record-shown t s w all a c n52 set l u d r in
+        rw (h .is) (kind-shown t set c d (h .origin) k (unbroken t s w all a c n52 set l u k d r))
 
 pub demand-3-of-kinds : Demand3OfKinds
 demand-3-of-kinds words = demand-3 kinds kinds-proper (marked words)

@@ -1,15 +1,22 @@
 -- A written field and a written message, read
 pub mod Encode
 pub mod Written
--- The sheet: its walk, its records, and the rows of the table that concern one
+-- The sheet: its walk, its records, their pieces, and the rows of the table that concern a record
 pub mod SheetView
+pub mod Ruled
+pub mod Splitting
+pub mod Joining
 pub mod SheetLaws
 pub mod SheetSteps
-pub mod Ruled
+pub mod PieceSteps
 pub mod SheetRows
 -- The return of the sheet, and demand 3
 pub mod Demand
+-- The plans, and what a field takes
+pub mod Plans
 -- What the writer leaves, when it refuses, and that no other writer is right
 pub mod Writer
 pub mod Declined
 pub mod WriterOnly
+-- Cases of long records, computed
+pub mod LongRecords

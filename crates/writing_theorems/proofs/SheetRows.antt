@@ -18,13 +18,13 @@ use Rattle.options.specs.SheetRefusals.{RecordBeyond, SheetRow, row-12, row-10,
 use Rattle.options.specs.SheetWalk.{recordsFrom, AllShort, Sheet, sound, faulty, ruled, isBroken, brokenBy, breaksKind}
 use Rattle.options.specs.RuleClaims.{Reached, at-first, behind, nth-first, nth-next, RuleRow, cut-row, rule-row, CorrectSheet}
 use Rattle.options.specs.Writing.{writerRules, sheet, hasTag, threeBeforeOne, placeOf3}
+use Rattle.options.specs.WriterClaims.{Has}
 use Rattle.options.specs.WritingClaims.{RecordIn}
 use Rattle.theorems.proofs.View.{clash}
 use Rattle.theorems.proofs.Fields.{compare}
 use Rattle.theorems.proofs.Sheets.{From, here, past, from-le, begins-from, record-same, from-record, record-first, records-next}
-use Rattle.writing_theorems.proofs.SheetView.{nothing, rec, whole-or-cut}
+use Rattle.writing_theorems.proofs.SheetView.{head, tail, nothing, rec, whole-or-cut}
 use Rattle.writing_theorems.proofs.Ruled.{nth-some, ruled-correct}
-use Rattle.writing_theorems.proofs.SheetLaws.{Has}
 
 from-begins : {s : List ℕ} {k i : ℕ} → RecordBegins s i → From s k i → RecordBegins s k
 from-begins {s} b (here e) = subst (λ (x : ℕ). RecordBegins s x) e b
@@ -123,7 +123,7 @@ module _ {t : Table} {s : List ℕ} where
   to-row : {n i q : ℕ} → RuleRow (writerRules t) s n i q → SheetRow t s n i q
   to-row (cut-row r x) = row-12 (reached-begins r) x
   to-row (rule-row {c = c} r o nth-first b) = row-10 (reached-begins r) (o .reads) (bad-tag c b)
-  to-row (rule-row {d = d} r o (nth-next nth-first) b) = row-13 (record { begins = reached-begins r; is-record = o }) (ltb-true 255 (length d) b)
+  to-row (rule-row {d = d} r o (nth-next nth-first) b) = row-13 (record { begins = reached-begins r; is-record = o }) (ltb-true 1024 (length d) b)
   to-row (rule-row {c = c} r o (nth-next (nth-next nth-first)) b) = let z = met-listed c r b in row-7 (record { begins = reached-begins r; is-record = o }) (z .2) (z .3)
   to-row (rule-row {c = c} {d = d} r o (nth-next (nth-next (nth-next nth-first))) b) =
       let z = kind-bad t c d b in row-8-9 (record { begins = reached-begins r; is-record = o }) (z .0) (z .1)
@@ -136,7 +136,7 @@ module _ {t : Table} {s : List ℕ} where
       (λ (x : (d : List ℕ) × RecordAt s i c d). record { number = 10; rank = 1; row = rule-row (reaches b .reached) (x .1) nth-first (tag-bad c y); no-higher = omega arith })
       (whole-or-cut s i c r all e)
   of-row all (row-13 {d = d} l x) =
-      record { number = 13; rank = 2; row = rule-row (reaches (l .begins) .reached) (l .is-record) (nth-next nth-first) (lt-ltb 255 (length d) x); no-higher = omega arith }
+      record { number = 13; rank = 2; row = rule-row (reaches (l .begins) .reached) (l .is-record) (nth-next nth-first) (lt-ltb 1024 (length d) x); no-higher = omega arith }
   of-row all (row-7 {j = j} {c = c} {e = e} a l b) =
       let r = reaches (a .begins) in
       record { number = 7; rank = 3; row = rule-row (r .reached) (a .is-record) (nth-next (nth-next nth-first)) (listed-met (r .reached) j c e l b); no-higher = omega arith }
@@ -174,7 +174,7 @@ judges t s all = judges-of t s all (ruled (writerRules t) [] (recordsFrom 0 0 s)
 
 -- ---- tag 3 before tag 1
 
-small-body : (r : Rec) → length (r .body) ≤ 255 → length (r .body) < 65536
+small-body : (r : Rec) → length (r .body) ≤ 1024 → length (r .body) < 65536
 small-body r h = omega arith
 
 module _ (s : List ℕ) where

@@ -14,8 +14,8 @@ use Rattle.options.specs.Answers.{recordBytes}
 use Rattle.options.specs.Kinds.{Table}
 use Rattle.options.specs.SheetWalk.{Walk, allRead, cutAt, readAt, recordsFrom, recordsOf, recordsLeft, AllShort, Whole, sound}
 use Rattle.options.specs.Writing.{writerRules, sheet}
-use Rattle.writing_theorems.proofs.SheetView.{rec, Lies, whole-here, walk-none, walk-cut, walk-record}
-use Rattle.writing_theorems.proofs.SheetLaws.{sound-sheet, sound-records}
+use Rattle.writing_theorems.proofs.SheetView.{rec, Lies, Reads, r-none, r-cut, r-record, reads, whole-here, walk-none, walk-cut, walk-record}
+use Rattle.writing_theorems.proofs.SheetLaws.{sound-sheet, sound-records, Uncut, sound-uncut}
 
 -- ---- One step of the walk
 
@@ -115,9 +115,7 @@ pub record Next (s : List ℕ) (at : ℕ) : Type 0 where
   pub within : at + 3 + sizeAt s at ≤ length s
   pub body-long : length (recordHere s at .body) ≡ sizeAt s at
   pub first : recordsLeft s at ≡ recordHere s at ∷ recordsLeft s (at + 3 + sizeAt s at)
-  -- its size is its second length byte
-  pub few : sizeAt s at ≤ 255
-  pub low : sizeAt s at ≡ getD s (at + 2) 0
+  pub few : sizeAt s at ≤ 1024
   pub whole : Whole s (at + 3 + sizeAt s at)
 
 module _ (s : List ℕ) (at : ℕ) (w : Whole s at) (l : at < length s) where
@@ -130,7 +128,7 @@ module _ (s : List ℕ) (at : ℕ) (w : Whole s at) (l : at < length s) where
   next-at : at + 3 + sizeAt s at ≤ length s → length (recordHere s at .body) ≡ sizeAt s at → recordsLeft s at ≡ recordHere s at ∷ recordsLeft s (at + 3 + sizeAt s at) → Next s at
   next-at h long first =
       let short : AllShort (recordHere s at ∷ recordsLeft s (at + 3 + sizeAt s at)) = subst AllShort first (w .short) in
-      let few : sizeAt s at ≤ 255 = omega (arith, long, short .0) in
+      let few : sizeAt s at ≤ 1024 = omega (arith, long, short .0) in
       let bytes : length (recordBytes (recordsLeft s at)) ≡ 3 + length (recordHere s at .body) + length (recordBytes (recordsLeft s (at + 3 + sizeAt s at))) =
       ap (λ (rs : List Rec). length (recordBytes rs)) first ∙ bytes-more (recordHere s at) (recordsLeft s (at + 3 + sizeAt s at)) in
       record {
@@ -138,7 +136,6 @@ module _ (s : List ℕ) (at : ℕ) (w : Whole s at) (l : at < length s) where
         body-long = long;
         first = first;
         few = few;
-        low = omega arith;
         whole = record { to-end = omega (arith, bytes, long, w .to-end); short = short .1 };
       }
 
@@ -151,11 +148,20 @@ module _ (s : List ℕ) (at : ℕ) (w : Whole s at) (l : at < length s) where
   pub next-left : Next s at
   next-left = next-by (at-place s at) refl
 
+-- a walk that meets no cut record goes to the sheet's end
+read-to-end : {s : List ℕ} {i : ℕ} {w : Walk} → Reads s i w → Uncut w → i ≤ length s → i + length (recordBytes (recordsOf w)) ≡ length s
+unfolding recordsOf recordBytes
+read-to-end {s} {i} (r-none e) u l = let z : length (drop i s) ≡ 0 = ap length e in omega (arith, z, length-drop i s)
+read-to-end (r-cut x) u l = absurd u
+read-to-end {s} {i} (r-record {c = c} {d = d} {w = w} o r) u l =
+    let n : length (drop i s) ≡ 3 + length d + length (o .after) = ap length (o .reads) ∙ omega (arith, length-append d (o .after)) in
+    let ih : i + 3 + length d + length (recordBytes (recordsOf w)) ≡ length s = read-to-end r u (omega (arith, n, length-drop i s)) in
+    omega (arith, ih, bytes-more (rec c d) (recordsOf w))
+
 -- the records of an accepted sheet are those left from its start on, and they take all of it
 pub whole-left : (t : Table) (s : List ℕ) (rs : List Rec) → sheet t s ≡ sound rs → (recordsLeft s 0 ≡ rs) × Whole s 0
 unfolding sheet recordsLeft
 whole-left t s rs e =
-    let f = sound-sheet t s rs e in
     let is : recordsLeft s 0 ≡ rs = sound-records (writerRules t) [] (recordsFrom 0 0 s) rs e in
-    let n : length (recordBytes (recordsLeft s 0)) ≡ length s = ap (λ (ts : List Rec). length (recordBytes ts)) is ∙ ap length (f .back) in
-    (is, record { to-end = omega (arith, n); short = subst AllShort (sym is) (f .short) })
+    let n : 0 + length (recordBytes (recordsLeft s 0)) ≡ length s = read-to-end (reads s) (sound-uncut (writerRules t) [] (recordsFrom 0 0 s) rs e) (omega arith) in
+    (is, record { to-end = n; short = subst AllShort (sym is) (sound-sheet t s rs e .short) })

@@ -6,7 +6,7 @@ use mathlib.Core.Logic.{_⊎_, inl, inr, ⊎-elim}
 use Prim.Native.Nat.{ℕ, zero, suc, _+_, _*_, _/_, _%_, _≤_, _<_}
 use native.Mathlib.Omega.{arith}
 use lib.ListN.{length, take, drop, length-append, take-append-drop}
-use lib.Seq.{drop-drop, drop-at, length-take-le, take-append-seam}
+use lib.Seq.{drop-drop, drop-at, take-at, length-take-le, take-append-seam}
 use lib.Dec.{ltb}
 use borrow.Author.Tests.{ltb-true, ltb-false, lt-ltb, le-ltb}
 use Rattle.options.specs.Message.{Rec}
@@ -153,3 +153,29 @@ walk-record s i c d o =
     let is : take (length d) (d ++ o .after) ≡ d = take-append-seam d (o .after) in
     ap (recordsFrom i 0) (o .reads)
     ∙ simp (o .size, uncut, is, three) (ap (readAt i (rec c d)) (walk-skip (i + 3) d (o .after) ∙ ap (recordsFrom (i + 3 + length d) 0) (sym (lies-next o))))
+
+-- ---- The bytes of records
+
+-- two records' bytes
+head-of : {b c : ℕ} {bs cs : List ℕ} → b ∷ bs ≡ c ∷ cs → (b ≡ c) × (bs ≡ cs)
+head-of e = (cc, cc)
+
+same-bytes : (b h l : ℕ) (d rest : List ℕ) (r : Rec) (ts : List ℕ) → 256 * h + l ≡ length d
+    → b ∷ h ∷ l ∷ (d ++ rest) ≡ r .tag ∷ length (r .body) / 256 ∷ length (r .body) % 256 ∷ (r .body ++ ts) → (rec b d ≡ r) × (rest ≡ ts)
+same-bytes b h l d rest r ts n e =
+    let e1 = head-of e in
+    let e2 = head-of (e1 .1) in
+    let e3 = head-of (e2 .1) in
+    let len : length d ≡ length (r .body) = omega (arith, n, e2 .0, e3 .0) in
+    let body : d ≡ r .body = sym (take-at d rest (length d) refl) ∙ ap₂ (λ (k : ℕ) (x : List ℕ). take k x) len (e3 .1) ∙ take-at (r .body) ts (length (r .body)) refl in
+    (ap₂ rec (e1 .0) body, sym (drop-at d rest (length d) refl) ∙ ap₂ (λ (k : ℕ) (x : List ℕ). drop k x) len (e3 .1) ∙ drop-at (r .body) ts (length (r .body)) refl)
+
+-- a sheet has one list of records
+pub same-sheet : (rs ts : List Rec) → recordBytes rs ≡ recordBytes ts → rs ≡ ts
+unfolding recordBytes
+same-sheet [] [] e = refl
+same-sheet [] (x ∷ ts) e = clash (cc)
+same-sheet (x ∷ rs) [] e = clash (cc)
+same-sheet (x ∷ rs) (y ∷ ts) e =
+    let p = same-bytes (x .tag) (length (x .body) / 256) (length (x .body) % 256) (x .body) (recordBytes rs) y (recordBytes ts) (omega arith) e in
+    ap₂ (λ (r : Rec) (l : List Rec). r ∷ l) (p .0) (same-sheet rs ts (p .1))

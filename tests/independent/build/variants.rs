@@ -53,8 +53,8 @@ const VARIANTS: &[Variant] = &[
         "sname before file",
         "reading.rs",
         "    if overload & 1 != 0 {\n",
-        "    if overload == 3 {\n        walk_field(message, Field::Sname, FILE, &mut codes, &mut meet)?;\n        \
-         walk_field(message, Field::File, COOKIE, &mut codes, &mut meet)?;\n        return Ok(codes);\n    }\n    \
+        "    if overload == 3 {\n        walk_field(message, Field::Sname, FILE, &mut meet)?;\n        \
+         walk_field(message, Field::File, COOKIE, &mut meet)?;\n        return Ok(());\n    }\n    \
          if overload & 1 != 0 {\n",
     ),
     variant!("file ends a byte early", "reading.rs", "Field::File, COOKIE,", "Field::File, COOKIE - 1,"),
@@ -90,21 +90,36 @@ const VARIANTS: &[Variant] = &[
         "let after = place + 2 + usize::from(length);\n        \
          if let Some(data) = bytes.get(place + 2..if after == bytes.len() + 1 { after - 1 } else { after }) {",
     ),
-    variant!("repeated codes are accepted", "reading.rs", "if !codes.add(code) {", "if !codes.add(code) && false {"),
     variant!(
-        "repeated codes are accepted from field to field",
+        "a code met again is refused",
         "reading.rs",
-        "    let mut overload = 0;\n",
-        "    let mut overload = 0;\n    let codes = &mut { *codes };\n",
+        &[
+            (
+                "    check_frame(message)?;\n",
+                "    check_frame(message)?;\n    let mut codes = Codes::default();\n    let mut again = None;\n    \
+                 let mut meet = |met: Met| {\n        if !codes.add(met.code) && again.is_none() {\n            \
+                 again = Some(met.place);\n        }\n        meet(met);\n    };\n",
+            ),
+            (
+                "    Ok(())\n}\n\n/// Meets the pieces of one field",
+                "    again.map_or(Ok(()), |place| refuse(7, place))\n}\n\n/// Meets the pieces of one field",
+            ),
+        ],
+    ),
+    variant!(
+        "a second 52 is joined",
+        "reading.rs",
+        "            if overload != 0 {\n                return refuse(7, place);\n            }\n",
+        "",
     ),
     variant!("52 in file is accepted", "reading.rs", "field == Field::Options && ", ""),
     variant!("52 of length 2", "reading.rs", "[value] if field", "[value, ..] if field"),
     variant!(
         "7 before 6",
         "reading.rs",
-        "        if code == OVERLOAD {\n            overload",
-        "        if codes.has(code) {\n            return refuse(7, place);\n        }\n        \
-         if code == OVERLOAD {\n            overload",
+        "            let value = overload_value(field, place, data)?;\n",
+        "            if overload != 0 {\n                return refuse(7, place);\n            }\n            \
+         let value = overload_value(field, place, data)?;\n",
     ),
     // Reading: where an answer comes from.
     variant!(
@@ -131,12 +146,10 @@ const VARIANTS: &[Variant] = &[
     variant!(
         "broken is a refusal",
         "reading.rs",
-        "        Some(met) => Ok(",
-        "        Some(met) if matches!(content(message, known, met), Content::Broken(_)) => {\n            \
-         match content(message, known, met) {\n                Content::Broken(r) => Err(r),\n                \
-         _ => Ok(Lookup::Absent),\n            }\n        }\n        Some(met) => Ok(",
+        "    Ok(Lookup::Found(first.origin()",
+        "    if let Content::Broken(r) = content {\n        return Err(r);\n    }\n    Ok(Lookup::Found(first.origin()",
     ),
-    variant!("broken's place counted in its field", "reading.rs", "place: met.place }", "place: met.origin().offset }"),
+    variant!("broken's place counted in its field", "reading.rs", "place: first.place }", "place: first.origin().offset }"),
     // Reading: the calls.
     variant!("code 0 is absent", "reading.rs", "if code == PAD || code == END {", "if code == END {"),
     variant!("code 255 is absent", "reading.rs", "if code == PAD || code == END {", "if code == PAD {"),
@@ -149,24 +162,24 @@ const VARIANTS: &[Variant] = &[
     variant!(
         "the known set's words in another order",
         "reading.rs",
-        "if known.has(met.code)",
-        "if known.has(met.code ^ 64)",
+        "if known.has(first.code)",
+        "if known.has(first.code ^ 64)",
     ),
-    variant!("every code is known", "reading.rs", "if known.has(met.code)", "if known.has(met.code) || true"),
+    variant!("every code is known", "reading.rs", "if known.has(first.code)", "if known.has(first.code) || true"),
     variant!(
         "52 is known always",
         "reading.rs",
-        "if known.has(met.code)",
-        "if known.has(met.code) || met.code == OVERLOAD",
+        "if known.has(first.code)",
+        "if known.has(first.code) || first.code == OVERLOAD",
     ),
     variant!(
         "zeros cut from data",
         "reading.rs",
-        "Ok(Some(met)) if met.length > 0 => met.part(),",
-        "Ok(Some(met)) if kinds::text_length(met.data(message)) > 0 => {\n            \
-         Part { start: met.place + 2, length: kinds::text_length(met.data(message)) }\n        }",
+        "pieces.whole > 0 => pieces.first.part(),",
+        "kinds::text_length(pieces.first.data(message)) > 0 => {\n            \
+         Part { start: pieces.first.place + 2, length: kinds::text_length(pieces.first.data(message)) }\n        }",
     ),
-    variant!("empty data keeps its start", "reading.rs", "if met.length > 0 => met.part()", "=> met.part()"),
+    variant!("empty data keeps its start", "reading.rs", "pieces.count == 1 && pieces.whole > 0 =>", "pieces.count == 1 =>"),
     variant!("text with its zeros", "reading.rs", "if kind == Kind::Text {", "if false {"),
     variant!(
         "text of opaque data",
@@ -191,8 +204,8 @@ const VARIANTS: &[Variant] = &[
     variant!(
         "roll call without 52",
         "reading.rs",
-        "    let codes = walk(message, |_| ())?;\n",
-        "    let mut codes = walk(message, |_| ())?;\n    codes.0[0] &= !(1 << 52);\n",
+        "    Ok(RollCall {",
+        "    codes.0[0] &= !(1 << 52);\n    Ok(RollCall {",
     ),
     variant!("roll call's count off by one", "reading.rs", "count: codes.count()", "count: codes.count().max(1)"),
     variant!(
@@ -204,8 +217,8 @@ const VARIANTS: &[Variant] = &[
     variant!(
         "records with 52",
         "reading.rs",
-        "if met.code != OVERLOAD {\n            places",
-        "if true {\n            places",
+        "if met.code == OVERLOAD {\n            return;",
+        "if false {\n            return;",
     ),
     variant!("no room for the exact sheet", "reading.rs", "sheet.get_mut(..size)", "sheet.get_mut(..size + 1)"),
     variant!(
@@ -225,7 +238,178 @@ const VARIANTS: &[Variant] = &[
     variant!(
         "record lengths with the low byte first",
         "reading.rs",
-        &[("record[1] = 0", "record[1] = option[1]"), ("record[2] = option[1]", "record[2] = 0")],
+        "&[code, high, low]",
+        "&[code, low, high]",
+    ),
+    // Reading: pieces.
+    variant!(
+        "pieces joined in another order",
+        "reading.rs",
+        "            room[length..][..met.length].copy_from_slice(met.data(message));\n",
+        "            room.copy_within(..length, met.length);\n            \
+         room[..met.length].copy_from_slice(met.data(message));\n",
+    ),
+    variant!(
+        "pieces joined as they stand in memory",
+        "reading.rs",
+        &[
+            (
+                "    let _ = walk(message, |met| {\n        if met.code == code {",
+                "    for field in [Field::Sname, Field::File, Field::Options] {\n    \
+                 let _ = walk(message, |met| {\n        if met.code == code && met.field == field {",
+            ),
+            ("    });\n    length\n", "    });\n    }\n    length\n"),
+        ],
+    ),
+    variant!(
+        "only the first piece is judged",
+        "reading.rs",
+        "Some(whole) => joined_content(message, known, first, whole)",
+        "Some(_) => content(known, first, first.data(message))",
+    ),
+    variant!(
+        "the last piece is named",
+        "reading.rs",
+        "            pieces.count += 1;\n",
+        "            pieces.first = met;\n            pieces.count += 1;\n",
+    ),
+    variant!(
+        "several not said for a number",
+        "reading.rs",
+        "pieces.several(), content))",
+        "if let Content::Number(..) = content { None } else { pieces.several() }, content))",
+    ),
+    variant!(
+        "several not said for what is broken",
+        "reading.rs",
+        "pieces.several(), content))",
+        "if let Content::Broken(_) = content { None } else { pieces.several() }, content))",
+    ),
+    variant!(
+        "several not said for what is unknown",
+        "reading.rs",
+        "pieces.several(), content))",
+        "if let Content::Unknown(_) = content { None } else { pieces.several() }, content))",
+    ),
+    variant!("several said of one piece", "reading.rs", "(self.count > 1)", "(self.count > 0)"),
+    variant!("several from three pieces on", "reading.rs", "(self.count > 1)", "(self.count > 2)"),
+    variant!(
+        "trailing zeros not counted in the whole",
+        "reading.rs",
+        "pieces.several(), content))",
+        "match content {\n        Content::Part(Kind::Text, length) => pieces.several().map(|_| length),\n        \
+         _ => pieces.several(),\n    }, content))",
+    ),
+    variant!(
+        "trailing zeros of each piece are dropped",
+        "reading.rs",
+        "    join(message, first.code, &mut joined);\n    content(known, first, &joined[..whole])",
+        "    let mut length = whole - whole;\n    let _ = walk(message, |met| {\n        if met.code == first.code {\n            \
+         let data = met.data(message);\n            let text = kinds::kind_of(met.code) == Some(Kind::Text);\n            \
+         let kept = if text { kinds::text_length(data) } else { data.len() };\n            \
+         joined[length..][..kept].copy_from_slice(&data[..kept]);\n            length += kept;\n        }\n    });\n    \
+         content(known, first, &joined[..length])",
+    ),
+    variant!(
+        "an empty second piece is not counted",
+        "reading.rs",
+        "            pieces.count += 1;\n",
+        "            pieces.count += usize::from(pieces.count == 0 || met.length > 0);\n",
+    ),
+    variant!(
+        "empty pieces are not counted",
+        "reading.rs",
+        "            pieces.count += 1;\n",
+        "            pieces.count += usize::from(met.length > 0);\n",
+    ),
+    variant!("data of several pieces is the first", "reading.rs", "pieces.count == 1 && pieces.whole", "pieces.whole"),
+    variant!("text of several pieces", "reading.rs", "Lookup::Found(origin, None, ", "Lookup::Found(origin, _, "),
+    variant!(
+        "the roll call counts pieces",
+        "reading.rs",
+        &[
+            (
+                "    walk(message, |met| {\n        codes.add(met.code);",
+                "    let mut pieces = 0;\n    walk(message, |met| {\n        pieces += 1;\n        codes.add(met.code);",
+            ),
+            ("count: codes.count()", "count: pieces"),
+        ],
+    ),
+    variant!(
+        "a record for each piece",
+        "reading.rs",
+        &[("MOST_RECORDS: usize = 253", "MOST_RECORDS: usize = 800"), ("if codes.add(met.code) {", "if codes.add(met.code) || true {")],
+    ),
+    variant!(
+        "a record at the last piece's turn",
+        "reading.rs",
+        "            again.add(met.code);\n",
+        "            again.add(met.code);\n            \
+         let at = places[..count].iter().position(|&place| message[usize::from(place)] == met.code).unwrap();\n            \
+         places[at..count].rotate_left(1);\n",
+    ),
+    variant!(
+        "a record's length in one byte",
+        "reading.rs",
+        "let [high, low] = (length as u16).to_be_bytes();",
+        "let [high, low] = [0, length as u8];",
+    ),
+    variant!("a record of its first piece alone", "reading.rs", "let length = if again.has(code) {", "let length = if again.has(code) && false {"),
+    // Reading: the copy.
+    variant!(
+        "a copy writes past what it gives",
+        "reading.rs",
+        "    Ok(join(message, code, room))\n",
+        "    let length = join(message, code, room);\n    \
+         buffer[length..].iter_mut().take(1).for_each(|byte| *byte = 0);\n    Ok(length)\n",
+    ),
+    variant!(
+        "rest of the copy's buffer becomes zero",
+        "reading.rs",
+        "    Ok(join(message, code, room))\n",
+        "    let length = join(message, code, room);\n    buffer[length..].fill(0);\n    Ok(length)\n",
+    ),
+    variant!("a copy of an absent code as 0 bytes", "reading.rs", "        return refuse(11, 0);", "        return Ok(0);"),
+    variant!("an absent code's place in a copy", "reading.rs", "        return refuse(11, 0);", "        return refuse(11, buffer.len());"),
+    variant!("a copy's place on refusal", "reading.rs", "refuse(11, buffer.len())", "refuse(11, pieces.whole)"),
+    variant!("no room for the exact copy", "reading.rs", "buffer.get_mut(..pieces.whole)", "buffer.get_mut(..pieces.whole + 1)"),
+    variant!(
+        "a refused copy is begun",
+        "reading.rs",
+        "    let Some(room) = buffer",
+        "    if pieces.whole > buffer.len() {\n        buffer.iter_mut().take(1).for_each(|byte| *byte ^= 1);\n    }\n    \
+         let Some(room) = buffer",
+    ),
+    variant!(
+        "a copy of the first piece alone",
+        "reading.rs",
+        "    Ok(join(message, code, room))\n",
+        "    room[..pieces.first.length].copy_from_slice(pieces.first.data(message));\n    Ok(pieces.first.length)\n",
+    ),
+    variant!(
+        "a copy without trailing zeros",
+        "reading.rs",
+        "    Ok(join(message, code, room))\n",
+        "    join(message, code, room);\n    Ok(kinds::text_length(room))\n",
+    ),
+    variant!(
+        "one piece is not copied",
+        "reading.rs",
+        "    let Some(room) = buffer",
+        "    if pieces.count == 1 {\n        return Ok(0);\n    }\n    let Some(room) = buffer",
+    ),
+    variant!(
+        "52 is not copied",
+        "reading.rs",
+        "    let Some(room) = buffer",
+        "    if code == OVERLOAD {\n        return refuse(11, 0);\n    }\n    let Some(room) = buffer",
+    ),
+    variant!(
+        "a copy's 11 before the message's fault",
+        "reading.rs",
+        "    let Some(pieces) = find(message, code)? else {\n        return refuse(11, 0);",
+        "    if buffer.is_empty() && code != PAD && code != END {\n        return refuse(11, 0);\n    }\n    \
+         let Some(pieces) = find(message, code)? else {\n        return refuse(11, 0);",
     ),
     // Kinds.
     variant!("68 of length 0", "kinds.rs", " || code == 68)", ")"),
@@ -294,20 +478,20 @@ const VARIANTS: &[Variant] = &[
         "13 before 12",
         "writing.rs",
         "    let Some((record, rest)) = split_record(sheet) else {",
-        "    if sheet.len() >= 3 && sheet[1] != 0 {\n        return refuse(13, place);\n    }\n    \
+        "    if sheet.len() >= 3 && u16::from_be_bytes([sheet[1], sheet[2]]) > 1024 {\n        return refuse(13, place);\n    }\n    \
          let Some((record, rest)) = split_record(sheet) else {",
     ),
     variant!(
         "13 before 10",
         "writing.rs",
         "    if matches!(record.tag",
-        "    if record.data.len() > 255 {\n        return refuse(13, place);\n    }\n    if matches!(record.tag",
+        "    if record.data.len() > LONGEST_RECORD {\n        return refuse(13, place);\n    }\n    if matches!(record.tag",
     ),
     variant!(
         "7 before 13",
         "writing.rs",
-        "    if record.data.len() > 255 {",
-        "    if tags.has(record.tag) {\n        return refuse(7, place);\n    }\n    if record.data.len() > 255 {",
+        "    if record.data.len() > LONGEST_RECORD {",
+        "    if tags.has(record.tag) {\n        return refuse(7, place);\n    }\n    if record.data.len() > LONGEST_RECORD {",
     ),
     variant!(
         "8 and 9 before 7",
@@ -318,7 +502,15 @@ const VARIANTS: &[Variant] = &[
          return refuse(fault.number(), place);\n        }\n    }\n    if !tags.add(record.tag) {",
     ),
     variant!("tag 52 is written", "writing.rs", "PAD | OVERLOAD | END", "PAD | END"),
-    variant!("256 bytes of data", "writing.rs", "record.data.len() > 255", "record.data.len() > 256"),
+    variant!("1,025 bytes of data", "writing.rs", "LONGEST_RECORD: usize = 1024", "LONGEST_RECORD: usize = 1025"),
+    variant!("1,024 bytes of data refused", "writing.rs", "LONGEST_RECORD: usize = 1024", "LONGEST_RECORD: usize = 1023"),
+    variant!("256 bytes of data refused", "writing.rs", "LONGEST_RECORD: usize = 1024", "LONGEST_RECORD: usize = 255"),
+    variant!(
+        "kinds judge the first 255 bytes",
+        "writing.rs",
+        "kinds::judge(kind, record.tag, record.data)",
+        "kinds::judge(kind, record.tag, &record.data[..record.data.len().min(255)])",
+    ),
     variant!("repeated tags are written", "writing.rs", "if !tags.add(record.tag) {", "if false && !tags.add(record.tag) {"),
     variant!(
         "kinds are not judged",
@@ -378,7 +570,7 @@ const VARIANTS: &[Variant] = &[
         ],
     ),
     variant!("overloading needs 245 bytes", "writing.rs", "OVERLOADED >= length", "OVERLOADED + 1 >= length"),
-    variant!("options takes no record when overloaded", "writing.rs", "fill(sheet, length - OVERLOADED,", "fill(sheet, length - length,"),
+    variant!("options takes no record when overloaded", "writing.rs", "length - OVERLOADED,", "length - length,"),
     variant!("file takes a byte less", "writing.rs", "fill(left, COOKIE - FILE,", "fill(left, COOKIE - FILE - 1,"),
     variant!("file takes a byte more", "writing.rs", "fill(left, COOKIE - FILE,", "fill(left, COOKIE - FILE + 1,"),
     variant!("sname takes a byte less", "writing.rs", "fill(left, FILE - SNAME,", "fill(left, FILE - SNAME - 1,"),
@@ -388,7 +580,7 @@ const VARIANTS: &[Variant] = &[
         "a field of the plan without a record gets no END",
         "writing.rs",
         "    room[used] = END;\n",
-        "    if used > 0 || sheet.is_empty() {\n        room[used] = END;\n    }\n",
+        "    if used > 0 || sheet.records.is_empty() {\n        room[used] = END;\n    }\n",
     ),
     variant!("rest is not made zero", "writing.rs", "    room[used + 1..].fill(0);\n", ""),
     variant!("cookie is not written", "writing.rs", "    buffer[COOKIE..OPTIONS].copy_from_slice(&COOKIE_BYTES);\n", ""),
@@ -425,8 +617,8 @@ const VARIANTS: &[Variant] = &[
         "writing.rs",
         &[
             (
-                "fn takes(plan: u8, mut left: &[u8]) -> bool {\n",
-                "fn lay(sheet: &[u8], plan: u8, buffer: &mut [u8]) -> bool {
+                "fn takes(plan: u8, mut left: Left) -> bool {\n",
+                "fn lay(sheet: Left, plan: u8, buffer: &mut [u8]) -> bool {
     let mut rooms = vec![(OVERLOADED, buffer.len()), (FILE, COOKIE), (SNAME, FILE)];
     if plan & 2 == 0 {
         rooms.remove(2);
@@ -435,7 +627,7 @@ const VARIANTS: &[Variant] = &[
         rooms.remove(1);
     }
     let mut left = sheet;
-    while let Some((record, rest)) = split_record(left) {
+    while let Some((record, rest)) = split_piece(left) {
         let size = 2 + record.data.len();
         let Some(room) = rooms.iter_mut().find(|room| room.0 + size < room.1) else {
             return false;
@@ -451,10 +643,10 @@ const VARIANTS: &[Variant] = &[
     true
 }
 
-fn takes(plan: u8, mut left: &[u8]) -> bool {
+fn takes(plan: u8, mut left: Left) -> bool {
 ",
             ),
-            ("plans.find(|&plan| takes(plan, left))", "plans.find(|&plan| lay(sheet, plan, &mut [0; LONGEST][..length]))"),
+            ("plans.find(|&plan| takes(plan, left))", "plans.find(|&plan| lay(Left { records: sheet, put: 0 }, plan, &mut [0; LONGEST][..length]))"),
             (
                 "    let mut left = put_field(sheet, &mut buffer[OVERLOADED..]);\n",
                 "    if lay(sheet, plan, buffer) {\n        return;\n    }\n    \
@@ -463,4 +655,65 @@ fn takes(plan: u8, mut left: &[u8]) -> bool {
         ],
     ),
     variant!("place when nothing fits", "writing.rs", "refuse(11, buffer.len())", "refuse(11, size)"),
+    // Writing: pieces.
+    variant!("pieces of 256", "writing.rs", "LONGEST_PIECE: usize = 255", "LONGEST_PIECE: usize = 256"),
+    variant!("pieces of 254", "writing.rs", "LONGEST_PIECE: usize = 255", "LONGEST_PIECE: usize = 254"),
+    variant!(
+        "a last piece of 0 bytes",
+        "writing.rs",
+        &[
+            ("data.len() > LONGEST_PIECE", "data.len() >= LONGEST_PIECE"),
+            ("length.div_ceil(LONGEST_PIECE).max(1)", "length / LONGEST_PIECE + 1"),
+        ],
+    ),
+    variant!(
+        "the short piece first",
+        "writing.rs",
+        &[
+            (
+                "        let put = left.put + LONGEST_PIECE;\n",
+                "        let size = if data.len() % LONGEST_PIECE > 0 { data.len() % LONGEST_PIECE } else { LONGEST_PIECE };\n        \
+                 let put = left.put + size;\n",
+            ),
+            ("data: &data[..LONGEST_PIECE]", "data: &data[..size]"),
+        ],
+    ),
+    variant!(
+        "pieces in another order",
+        "writing.rs",
+        &[
+            (
+                "    let data = &data[left.put..];\n",
+                "    let from = data.len() - left.put;\n    let all = data;\n    let data = &data[left.put..];\n",
+            ),
+            ("data: &data[..LONGEST_PIECE]", "data: &all[from - LONGEST_PIECE..from]"),
+            ("    Some((Record { tag, data }, Left", "    Some((Record { tag, data: &all[..from] }, Left"),
+        ],
+    ),
+    variant!(
+        "all pieces of a record in one field",
+        "writing.rs",
+        "        let size = 2 + piece.data.len();\n        if used + size + 1 > room {",
+        "        let size = 2 + piece.data.len();\n        \
+         let whole = split_record(left.records).map_or(0, |(record, _)| record.data.len());\n        \
+         if left.put == 0 && used + whole + 2 * piece_count(whole) + 1 > room || used + size + 1 > room {",
+    ),
+    variant!(
+        "a record is cut where its field ends",
+        "writing.rs",
+        "        if used + size + 1 > room {\n            break;",
+        "        if used + size + 1 > room {\n            if used + 4 <= room {\n                \
+         let part = room - used - 3;\n                \
+         put(used, &Record { tag: piece.tag, data: &piece.data[..part] });\n                \
+         used += 2 + part;\n                left.put += part;\n            }\n            break;",
+    ),
+    variant!("a record counts one head", "writing.rs", "2 * piece_count(record.data.len())", "2"),
+    variant!(
+        "later pieces of 120 bytes",
+        "writing.rs",
+        "    let data = &data[left.put..];\n    if data.len() > LONGEST_PIECE {",
+        "    let data = &data[left.put..];\n    if data.len() > 120 && left.put > 0 {\n        \
+         return Some((Record { tag, data: &data[..120] }, Left { put: left.put + 120, ..left }));\n    }\n    \
+         if data.len() > LONGEST_PIECE {",
+    ),
 ];

@@ -1,4 +1,4 @@
-//! Document 01's bench table, row by row, and request 01 of document 02,
+//! Document 01's bench table, row by row, and requests 01 and 02 of document 02,
 //! against this implementation alone.
 //! "Bytes in hex from 240 on, the cookie right, fields as named, all other
 //! bytes zero; every code is marked known."
@@ -40,7 +40,34 @@ fn lookup(message: &[u8], code: u8) -> Result<Lookup, Refusal> {
 
 /// An answer with what it says, its field, offset and start.
 fn found(content: Content, field: Field, offset: usize, start: usize) -> Result<Lookup, Refusal> {
-    Ok(Lookup::Found(Origin { field, offset, start }, content))
+    Ok(Lookup::Found(Origin { field, offset, start }, None, content))
+}
+
+/// An answer of several pieces, with their whole length.
+fn joined(
+    content: Content,
+    whole: usize,
+    field: Field,
+    offset: usize,
+    start: usize,
+) -> Result<Lookup, Refusal> {
+    Ok(Lookup::Found(Origin { field, offset, start }, Some(whole), content))
+}
+
+/// The bytes that a copy gives, in a buffer of which the rest stays.
+fn copied(message: &[u8], code: u8) -> Vec<u8> {
+    let mut buffer = [7; 2000];
+    let length = reading::copy(message, code, &mut buffer).unwrap();
+    assert!(buffer[length..].iter().all(|&byte| byte == 7));
+    buffer[..length].to_vec()
+}
+
+/// The records of a message.
+fn sheet_of(message: &[u8]) -> Vec<u8> {
+    let mut sheet = [7; 2000];
+    let length = reading::records(message, &mut sheet).unwrap();
+    assert!(sheet[length..].iter().all(|&byte| byte == 7));
+    sheet[..length].to_vec()
 }
 
 fn broken(number: u32, place: usize) -> Content {
@@ -54,6 +81,9 @@ fn refused(message: &[u8], number: u32, place: usize) {
         assert_eq!(lookup(message, code), Err(refusal));
         assert_eq!(reading::data(message, code), Part { start: 0, length: 0 });
         assert_eq!(reading::text(message, ALL, code), Part { start: 0, length: 0 });
+        let mut buffer = [7; 2000];
+        assert_eq!(reading::copy(message, code, &mut buffer), Err(refusal));
+        assert_eq!(buffer, [7; 2000]);
     }
     assert_eq!(reading::present(message), Err(refusal));
     let mut sheet = [7; 2000];
@@ -65,6 +95,7 @@ fn refused(message: &[u8], number: u32, place: usize) {
 /// What the listing program prints.
 fn listing(message: &[u8]) -> String {
     let mut lines = String::new();
+    let mut pieces = 0;
     match reading::walk(message, |met| {
         let Origin { field, start, .. } = met.origin();
         let name = match field {
@@ -72,9 +103,10 @@ fn listing(message: &[u8]) -> String {
             Field::File => "file",
             Field::Sname => "sname",
         };
+        pieces += 1;
         lines += &format!("{} {start} {} {name}\n", met.code, met.length);
     }) {
-        Ok(codes) => format!("accepted {}\n{lines}", codes.count()),
+        Ok(()) => format!("accepted {pieces}\n{lines}"),
         Err(r) => format!("refused {} {}\n", r.number, r.place),
     }
 }
@@ -142,7 +174,10 @@ fn row_7() {
 
 #[test]
 fn row_8() {
-    refused(&message("35 01 05 35 01 05 FF"), 7, 243);
+    // "case 8 becomes a lookup of 53 with 8 at 240"
+    let m = message("35 01 05 35 01 05 FF");
+    assert_eq!(lookup(&m, 53), joined(broken(8, 240), 2, Field::Options, 0, 242));
+    assert_eq!(listing(&m), "accepted 2\n53 242 1 options\n53 245 1 options\n");
 }
 
 #[test]
@@ -200,4 +235,97 @@ fn which_field() {
         "accepted 6\n52 242 1 options\n254 48 0 sname\n68 50 0 sname\n53 52 1 sname\n\
          12 55 0 sname\n51 57 4 sname\n"
     );
+}
+
+/// Request 02: "an option 43 of 300 bytes as two pieces".
+#[test]
+fn long_option() {
+    let bytes: Vec<u8> = (0..300).map(|i| i as u8).collect();
+    let mut m = message("2B FF");
+    m.extend(&bytes[..255]);
+    m.extend(hex("35 01 05 2B 2D"));
+    m.extend(&bytes[255..]);
+    m.push(255);
+    let opaque = Content::Part(Kind::Opaque, 300);
+    assert_eq!(lookup(&m, 43), joined(opaque, 300, Field::Options, 0, 242));
+    assert_eq!(reading::data(&m, 43), Part { start: 0, length: 0 });
+    assert_eq!(copied(&m, 43), bytes);
+    assert_eq!(copied(&m, 53), [5]);
+    let mut exact = [0; 300];
+    assert_eq!(reading::copy(&m, 43, &mut exact), Ok(300));
+    assert_eq!(reading::copy(&m, 43, &mut [0; 299]), Err(Refusal { number: 11, place: 299 }));
+    assert_eq!(reading::copy(&m, 12, &mut exact), Err(Refusal { number: 11, place: 0 }));
+    assert_eq!(reading::copy(&m, 255, &mut exact), Err(Refusal { number: 10, place: 0 }));
+    let call = reading::present(&m).unwrap();
+    assert_eq!((call.words, call.count, call.lowest), ([1 << 43 | 1 << 53, 0, 0, 0], 2, 43));
+    assert_eq!(
+        listing(&m),
+        "accepted 3\n43 242 255 options\n53 499 1 options\n43 502 45 options\n"
+    );
+    let sheet = [&hex("2B 01 2C"), &bytes[..], &hex("35 00 01 05")].concat();
+    assert_eq!(sheet_of(&m), sheet);
+
+    // "The writer splits a record over 255 bytes into pieces of 255 and a last of
+    // 1 to 255, in order"
+    let mut buffer = vec![9; 241 + 304 + 3];
+    assert_eq!(writing::write(&sheet, &mut buffer, 0), Ok(0));
+    assert_eq!(
+        listing(&buffer),
+        "accepted 3\n43 242 255 options\n43 499 45 options\n53 546 1 options\n"
+    );
+    assert_eq!(sheet_of(&buffer), sheet);
+    // The second piece goes to file, the first fits options alone.
+    let mut buffer = vec![9; 244 + 257];
+    assert_eq!(writing::write(&sheet, &mut buffer, 3), Ok(1));
+    assert_eq!(
+        listing(&buffer),
+        "accepted 4\n52 242 1 options\n43 245 255 options\n43 110 45 file\n53 157 1 file\n"
+    );
+    assert_eq!(sheet_of(&buffer), sheet);
+    let mut buffer = vec![9; 244 + 256];
+    assert_eq!(writing::write(&sheet, &mut buffer, 3), Err(Refusal { number: 11, place: 500 }));
+}
+
+/// Request 02: "Lookups judge the joined bytes"; "Every answer names the first
+/// piece."
+#[test]
+fn pieces() {
+    let three = with_file("34 01 01 0C 02 61 00 FF", "0C 00 0C 03 62 00 00 FF");
+    let text = Content::Part(Kind::Text, 3);
+    assert_eq!(lookup(&three, 12), joined(text, 5, Field::Options, 3, 245));
+    assert_eq!(reading::text(&three, ALL, 12), Part { start: 0, length: 0 });
+    assert_eq!(copied(&three, 12), hex("61 00 62 00 00"));
+    assert_eq!(sheet_of(&three), hex("0C 00 05 61 00 62 00 00"));
+    let lease = message("00 33 01 00 33 03 00 0E 10 FF");
+    let number = Content::Number(Kind::Unsigned32, 3600);
+    assert_eq!(lookup(&lease, 51), joined(number, 4, Field::Options, 1, 243));
+    let empty = message("35 01 09 35 00 FE 00 FE 00 FF");
+    assert_eq!(lookup(&empty, 53), joined(broken(9, 240), 1, Field::Options, 0, 242));
+    assert_eq!(lookup(&empty, 254), joined(Content::Unknown(0), 0, Field::Options, 5, 247));
+    assert_eq!(copied(&empty, 254), []);
+    // "7 stays for a second 52"; 6 before it.
+    refused(&with_file("34 01 01 34 01 01 FF", "FF"), 7, 243);
+    refused(&with_file("34 01 01 34 01 04 FF", "FF"), 6, 243);
+}
+
+/// Request 02: "13 is for data over 1,024 bytes", and 7 "for sheet tags".
+#[test]
+fn long_records() {
+    for (length, pieces) in [(255, 1), (256, 2), (510, 2), (511, 3), (765, 3), (1024, 5)] {
+        let sheet = [&[43, (length >> 8) as u8, length as u8], &vec![1; length][..]].concat();
+        let mut buffer = vec![9; 241 + length + 2 * pieces];
+        assert_eq!(writing::write(&sheet, &mut buffer, 0), Ok(0));
+        assert_eq!(listing(&buffer).lines().next(), Some(&*format!("accepted {pieces}")));
+        assert_eq!(sheet_of(&buffer), sheet);
+        let room = buffer.len() - 1;
+        assert_eq!(
+            writing::write(&sheet, &mut buffer[..room], 0),
+            Err(Refusal { number: 11, place: room })
+        );
+    }
+    let sheet = [&[43, 4, 1], &[1; 1025][..]].concat();
+    let refusal = Refusal { number: 13, place: 0 };
+    assert_eq!(writing::write(&sheet, &mut [9; 1472], 3), Err(refusal));
+    let refusal = Refusal { number: 7, place: 4 };
+    assert_eq!(writing::write(&hex("35 00 01 05 35 00 01 05"), &mut [9; 300], 0), Err(refusal));
 }

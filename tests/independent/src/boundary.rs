@@ -1,12 +1,13 @@
 //! The C structures, and the implementation exported with the library's C
 //! signatures, so that single calls of it can be counted.
 
-use crate::rules::answers::{Codes, Content, Lookup, Origin, Part, Refusal, RollCall};
+use crate::rules::answers::{Codes, Content, Lookup, Origin, Part, Refusal, RollCall, Several};
 use crate::rules::{reading, writing};
 use std::slice;
 
 /// status: 0 absent, 1 unknown, 2 refused, 3 a number, 4 a part, 5 broken.
-/// field: 1 options, 2 file, 3 sname, or 0. What an answer does not give is 0.
+/// field: 1 options, 2 file, 3 sname, or 0. several: 1 with the whole length
+/// where there are several pieces. What an answer does not give is 0.
 #[repr(C)]
 #[derive(Clone, Copy, PartialEq, Eq, Debug, Default)]
 pub struct Answer {
@@ -19,6 +20,8 @@ pub struct Answer {
     pub offset: usize,
     pub start: usize,
     pub length: usize,
+    pub whole: usize,
+    pub several: u32,
 }
 
 #[repr(C)]
@@ -66,16 +69,23 @@ impl From<Result<Lookup, Refusal>> for Answer {
     fn from(result: Result<Lookup, Refusal>) -> Answer {
         match result {
             Ok(Lookup::Absent) => Answer::default(),
-            Ok(Lookup::Found(origin, content)) => Answer::found(origin, content),
+            Ok(Lookup::Found(origin, several, content)) => Answer::found(origin, several, content),
             Err(r) => Answer { status: 2, refusal: r.number, place: r.place, ..Answer::default() },
         }
     }
 }
 
 impl Answer {
-    fn found(origin: Origin, content: Content) -> Answer {
+    fn found(origin: Origin, several: Several, content: Content) -> Answer {
         let Origin { field, offset, start } = origin;
-        let there = Answer { field: field as u32, offset, start, ..Answer::default() };
+        let there = Answer {
+            field: field as u32,
+            offset,
+            start,
+            whole: several.unwrap_or(0),
+            several: u32::from(several.is_some()),
+            ..Answer::default()
+        };
         match content {
             Content::Unknown(length) => Answer { status: 1, length, ..there },
             Content::Number(kind, number) => {
@@ -206,6 +216,20 @@ pub unsafe extern "C" fn independent_address_step(list: *const u8, n: usize, at:
 #[no_mangle]
 pub unsafe extern "C" fn independent_present(m: *const u8, n: usize) -> Present {
     reading::present(lent(m, n)).into()
+}
+
+/// # Safety
+/// `m` points to `n` readable bytes, `out` to `room` bytes lent to this call
+/// alone.
+#[no_mangle]
+pub unsafe extern "C" fn independent_copy(
+    m: *const u8,
+    n: usize,
+    code: u8,
+    out: *mut u8,
+    room: usize,
+) -> Filled {
+    reading::copy(lent(m, n), code, lent_mut(out, room)).into()
 }
 
 /// # Safety

@@ -1,5 +1,5 @@
-//! Document 01, with request 01 of document 02, written from their text alone,
-//! in plain Rust.
+//! Document 01, with requests 01 and 02 of document 02, written from their text
+//! alone, in plain Rust.
 //!
 //! `rules` is the implementation and has no unsafe code. `boundary` has the
 //! C structures and the exported functions.

@@ -14,11 +14,13 @@ const SHORT_SEEDS: [u64; 4] = [1, 2, 3, 4];
 const SHORT_CASES: u64 = 525_000;
 const LONG_FIRST_SEED: u64 = 1001;
 const LONG_CASES: u64 = 1_000_000;
+const PIECES_FIRST_SEED: u64 = 2001;
 
 const USAGE: &str = "\
 usage: independent [MODE]
   short            the default: all edges, 2,100,000 generated cases, each answer often enough
   long N           N million messages and sheets of other seeds
+  pieces N         N million messages, each with an option in pieces over two fields or three
   captures [DIR]   the files *.bin of a folder (../vectors/captures)
   broken           wrong variants and wrong subjects, each of which has to be detected
   case SEED INDEX  one generated case";
@@ -29,6 +31,7 @@ fn main() {
     let status = match words[..] {
         [] | ["short"] => short(),
         ["long", n] => n.parse().map_or_else(|_| usage(), long),
+        ["pieces", n] => n.parse().map_or_else(|_| usage(), pieces),
         ["captures"] => captured(Path::new("../vectors/captures")),
         ["captures", folder] => captured(Path::new(folder)),
         ["broken"] => broken::run(),
@@ -74,6 +77,23 @@ fn long(millions: u64) -> i32 {
     let mut run = new_run();
     let start = Instant::now();
     cases(&mut run, LONG_FIRST_SEED..LONG_FIRST_SEED + millions, LONG_CASES);
+    println!("{:.1} seconds", start.elapsed().as_secs_f64());
+    run.counts.print();
+    end(&run)
+}
+
+fn pieces(millions: u64) -> i32 {
+    let mut run = new_run();
+    let start = Instant::now();
+    for seed in PIECES_FIRST_SEED..PIECES_FIRST_SEED + millions {
+        println!("seed {seed}, cases 0 to {}", LONG_CASES - 1);
+        for index in 0..LONG_CASES {
+            run.across(seed, index);
+            if run.over() {
+                break;
+            }
+        }
+    }
     println!("{:.1} seconds", start.elapsed().as_secs_f64());
     run.counts.print();
     end(&run)

@@ -2,15 +2,15 @@
 use borrow.Author.Needs.{needs}
 use mathlib.Core.Path.{sym}
 use native.Mathlib.Omega.{arith}
-use Rattle.message.proofs.Bridge.{all-bytes}
+use Rattle.message.proofs.Callers.{all-bytes}
 use Rattle.text.proofs.Putting.{puts-more, puts-front}
 use Rattle.listing.proofs.Room.{refused-short}
 use Rattle.listing.proofs.Whole.{listing-refused, listing-accepted, has-room}
 use Rattle.listing.proofs.list.Statement.{statement}
 use Rattle.listing.proofs.list.Tie as tie
 
-scan-requires : tie.Need-scan-requires
-scan-requires c κs = search needs
+codes-requires : tie.Need-codes-requires
+codes-requires c κs = search needs
 
 put-refusal-requires : tie.Need-put-refusal-requires
 put-refusal-requires c κs = search needs
@@ -19,16 +19,10 @@ returns : tie.Need-returns
 returns c =
     let i = c .before .before in
     let s = i .before .before in
-    let w = s .scan in
+    let w = s .codes in
     let m = s .before .before .before .args .m .now in
-    rw (sym (listing-refused m (w .result) (w .last .1 .1 .0) (w .ensures) (i .if1 .taken)))
+    rw (sym (listing-refused m (w .result) (w .last .1 .0) (w .ensures) (i .if1 .taken)))
     (puts-front (omega (arith, refused-short (w .result .number) (w .result .place))) (c .put-refusal .ensures))
-
-count-requires : tie.Need-count-requires
-count-requires c κs = search needs
-
-cast-put-count : tie.Need-cast-put-count
-cast-put-count c = search needs
 
 put-count-requires : tie.Need-put-count-requires
 put-count-requires c κs = search needs
@@ -39,26 +33,22 @@ put-lines-requires c κs = search needs
 returns-2 : tie.Need-returns-2
 returns-2 c =
     let n = c .before .before in
-    let k = n .before .before in
-    let i = k .before in
+    let i = n .before .before in
     let s = i .before .before in
-    let w = s .scan in
+    let w = s .codes in
     let o = s .before .before in
     let m = o .before .args .m .now in
     let b = all-bytes m (λ j. o .shared-slice-known .given j .fits) in
-    rw (sym (listing-accepted m (w .result) (w .last .1 .1 .0) b (w .ensures) (i .if1 .left)))
-    (puts-front (omega (arith, has-room m (w .result) (w .last .1 .1 .0) b (w .ensures) (i .if1 .left)))
-    (puts-more (rw (k .count .ensures) at (n .put-count .ensures)) (c .put-lines .ensures)))
+    rw (sym (listing-accepted m (w .result) (w .last .1 .0) b (w .ensures) (i .if1 .left)))
+    (puts-front (omega (arith, has-room m (w .result) (w .last .1 .0) b (w .ensures) (i .if1 .left))) (puts-more (n .put-count .ensures) (c .put-lines .ensures)))
 
 pub list-spec : {M : Type 1} → statement M
 list-spec =
     tie.close
     (tie.spec
-    scan-requires
+    codes-requires
     put-refusal-requires
     returns
-    count-requires
-    cast-put-count
     put-count-requires
     put-lines-requires
     returns-2)

@@ -1,75 +1,43 @@
 -- `lookup::judge` meets its contract. Assumes nothing.
 use borrow.Author.Needs.{needs}
-use mathlib.Core.Path.{sym, _∙_}
-use borrow.Author.Tests.{not-true, not-false}
-use Rattle.options.specs.CodeSet.{marked}
-use Rattle.options.specs.Kinds.{kindOf}
-use Rattle.kinds.specs.Numbers.{kindAt}
-use Rattle.kinds.proofs.Numbering.{no-row, row}
-use Rattle.lookup.specs.Found.{valueOf}
-use Rattle.lookup.proofs.Laws.{judged-no-row, judged-unmarked, judged-broken, judged-kept}
+use borrow.Author.Tests.{eq-eqb, ne-eqb}
+use mathlib.Core.Path.{sym, ap, _∙_}
+use Rattle.options.specs.Answers as asked
+use Rattle.kinds.proofs.Numbering.{fault-as-broken, fault-as-kept}
+use Rattle.lookup.specs.Found.{valueOf, contentBy}
 use Rattle.lookup.proofs.judge.Statement.{statement}
 use Rattle.lookup.proofs.judge.Tie as tie
 
-kind-requires : tie.Need-kind-requires
-kind-requires c κs = search needs
-
 returns : tie.Need-returns
-returns c =
-    let k = c .before .kind in
-    let a = c .before .before .before .args in
-    judged-no-row (marked (a .known)) (a .code) (a .d .now) (no-row (kindOf (a .code)) (k .result) (k .ensures) (c .if1 .taken))
+unfolding contentBy
+returns c = rw (eq-eqb _ _ (c .if1 .taken))
 
-contains-requires : tie.Need-contains-requires
-contains-requires c κs = search needs
+fault-of-requires : tie.Need-fault-of-requires
+fault-of-requires c κs = search needs
+
+cast-t7 : tie.Need-cast-t7
+cast-t7 c = search needs
 
 returns-2 : tie.Need-returns-2
+unfolding contentBy
 returns-2 c =
-    let looked = c .before in
-    let a = looked .before .before .before .before .args in
-    judged-unmarked (marked (a .known)) (a .code) (a .d .now) (sym (looked .contains .ensures) ∙ not-true (looked .contains .result) (c .if2 .taken))
-
-fault-requires : tie.Need-fault-requires
-fault-requires c κs = search needs
-
-cast-t10 : tie.Need-cast-t10
-cast-t10 c = search needs
-
-returns-3 : tie.Need-returns-3
-returns-3 c =
-    let faulted = c .before in
-    let looked = faulted .before .before in
-    let rowed = looked .before in
-    let k = rowed .before .kind in
-    let a = rowed .before .before .before .args in
-    judged-broken (marked (a .known)) (a .code) (a .d .now) (kindAt (k .result)) (row (kindOf (a .code)) (k .result) (k .ensures) (rowed .if1 .left))
-    (sym (looked .contains .ensures) ∙ not-false (looked .contains .result) (faulted .before .if2 .left)) (faulted .fault .result) (faulted .fault .ensures) (c .if3 .taken)
+    let q = c .before in
+    let e = q .before in
+    let a = e .before .before .args in
+    rw (ne-eqb _ _ (e .if1 .left)) (ap asked.known (sym (fault-as-broken (a .k) (a .code) (a .d .now) (q .fault-of .result) (e .if1 .left) (q .fault-of .ensures) (c .if2 .taken))))
 
 value-requires : tie.Need-value-requires
 value-requires c κs = search needs
 
-returns-4 : tie.Need-returns-4
-unfolding valueOf
-returns-4 c =
-    let faulted = c .before .before in
-    let looked = faulted .before .before in
-    let rowed = looked .before in
-    let k = rowed .before .kind in
-    let a = rowed .before .before .before .args in
-    c .value .ensures
-    ∙ judged-kept (marked (a .known)) (a .code) (a .d .now) (kindAt (k .result)) (row (kindOf (a .code)) (k .result) (k .ensures) (rowed .if1 .left))
-    (sym (looked .contains .ensures) ∙ not-false (looked .contains .result) (faulted .before .if2 .left)) (sym (faulted .fault .ensures) ∙ c .before .if3 .left)
+returns-3 : tie.Need-returns-3
+unfolding contentBy valueOf
+returns-3 c =
+    let n = c .before in
+    let q = n .before in
+    let e = q .before in
+    let a = e .before .before .args in
+    rw (ne-eqb _ _ (e .if1 .left))
+    (c .value .ensures ∙ ap asked.known (sym (fault-as-kept (a .k) (a .code) (a .d .now) (e .if1 .left) (sym (q .fault-of .ensures) ∙ n .if2 .left))))
 
 pub judge-spec : {M : Type 1} → statement M
-judge-spec =
-    tie.close
-    (tie.spec
-    kind-requires
-    returns
-    contains-requires
-    returns-2
-    fault-requires
-    cast-t10
-    returns-3
-    value-requires
-    returns-4)
+judge-spec = tie.close (tie.spec returns fault-of-requires cast-t7 returns-2 value-requires returns-3)

@@ -1,8 +1,11 @@
 -- `plan::choose` meets its contract: the tests in the order of `writer`, then the plans. Assumes nothing.
 use mathlib.Core.Path.{sym, ap, _∙_}
 use denote.Ref.{now}
+use Rattle.writing_theorems.proofs.PieceSteps.{pieces-at-record, between-records}
 use Rattle.sheet.specs.declared.Judged.{Judged}
 use Rattle.sheet.proofs.Verdicts.{Accepted, accepted}
+use Rattle.plan.specs.Steps.{sizes}
+use Rattle.plan.proofs.Counting.{begins-single}
 use Rattle.plan.proofs.Trying.{too-short, too-long, no-such, sheet-long, faulty-sheet, sound-sheet}
 use borrow.Author.Needs.{needs}
 use Rattle.plan.proofs.choose.Statement.{statement}
@@ -51,7 +54,14 @@ sound c =
 choose-judged-requires : tie.Need-choose-judged-requires
 choose-judged-requires c κs =
     let first = c .before .before .before .before .before in
-    (first .if1 .left, sound c .whole, ap (λ (j : Judged). j .records) (c .before .judge .ensures) ∙ sound c .counted)
+    let s = now (first .before .before .args .s) in
+    let verdict = c .before .judge .ensures in
+    let a = sound c in (
+      first .if1 .left,
+      between-records s 0 (a .whole),
+      begins-single s _ (ap (λ (j : Judged). j .single) verdict ∙ a .single),
+      ap (λ (j : Judged). j .total) verdict ∙ a .total ∙ ap sizes (sym (pieces-at-record s 0)),
+    )
 
 returns-6 : tie.Need-returns-6
 returns-6 c =
@@ -60,7 +70,7 @@ returns-6 c =
     let first = last .before .before .before in
     let start = first .before .before .args in
     sound-sheet (now (start .s)) (start .len) (start .permission) (first .if1 .left) (last .before .before .if2 .left) (last .before .if3 .left) (last .if4 .left)
-    (sound (c .before)) _ (c .choose-judged .ensures)
+    (sound (c .before)) _ (ap (λ (j : Judged). j .single) (judged .judge .ensures)) _ (c .choose-judged .ensures)
 
 pub choose-spec : {M : Type 1} → statement M
 choose-spec =

@@ -5,7 +5,7 @@ use native.Mathlib.Omega.{arith}
 use denote.Ref.{now}
 use borrow.Author.Tests.{eq-eqb}
 use Rattle.options.specs.Message.{Rec}
-use Rattle.options.specs.SheetWalk.{recordsLeft}
+use Rattle.options.specs.Writing.{piecesLeft}
 use Rattle.plan.specs.Steps.{sizes, leftOver, firstFit}
 use Rattle.plan.proofs.Trying.{none-small, sname-only, with-file, file-only, with-both}
 use borrow.Author.Needs.{needs}
@@ -22,7 +22,7 @@ sub-n c = search needs
 returns-2 : tie.Need-returns-2
 returns-2 c =
     let start = c .before .before .before .args in
-    none-small _ (recordsLeft (now (start .s)) 0) (start .permission) (c .before .if1 .left) (c .if2 .taken)
+    none-small _ (piecesLeft (now (start .s)) 0 0) (start .permission) (c .before .if1 .left) (c .if2 .taken)
 
 sub-rest-after : tie.Need-sub-rest-after
 sub-rest-after c = search needs
@@ -37,20 +37,20 @@ returns-3 : tie.Need-returns-3
 returns-3 c =
     let options = c .before .before in
     let start = options .before .before .before .before .args in
-    sname-only _ (recordsLeft (now (start .s)) 0) (start .permission) (options .before .before .if1 .left) (options .before .if2 .left) _ (options .rest-after .ensures .total) _ (c .before .if3 .taken) (c .plan-if .ensures)
+    sname-only _ (piecesLeft (now (start .s)) 0 0) (start .permission) (options .before .before .if1 .left) (options .before .if2 .left) _ (options .rest-after .ensures .0 .total) _ (c .before .if3 .taken) (c .plan-if .ensures)
 
 returns-4 : tie.Need-returns-4
 returns-4 c =
     let options = c .before .before .before in
     let start = options .before .before .before .before .args in
-    with-file _ (recordsLeft (now (start .s)) 0) (start .permission) (options .before .before .if1 .left) (options .before .if2 .left) _ (options .rest-after .ensures .total) (c .before .before .if3 .left) (omega (arith, c .if4 .taken))
+    with-file _ (piecesLeft (now (start .s)) 0 0) (start .permission) (options .before .before .if1 .left) (options .before .if2 .left) _ (options .rest-after .ensures .0 .total) (c .before .before .if3 .left) (omega (arith, c .if4 .taken))
 
 returns-5 : tie.Need-returns-5
 returns-5 c =
     let third = c .before .before .before in
     let options = third .before in
     let start = options .before .before .before .before .args in
-    file-only _ (recordsLeft (now (start .s)) 0) (start .permission) (options .before .before .if1 .left) (options .before .if2 .left) _ (options .rest-after .ensures .total) (third .if3 .left) (c .before .if4 .left) (c .if5 .taken)
+    file-only _ (piecesLeft (now (start .s)) 0 0) (start .permission) (options .before .before .if1 .left) (options .before .if2 .left) _ (options .rest-after .ensures .0 .total) (third .if3 .left) (c .before .if4 .left) (c .if5 .taken)
 
 -- what file cannot take, sname cannot
 returns-6 : tie.Need-returns-6
@@ -60,7 +60,7 @@ rest-after-requires-2 : tie.Need-rest-after-requires-2
 rest-after-requires-2 c κs =
     let fourth = c .before .before .before in
     let o = fourth .before .before .before .rest-after .ensures in
-    (o .from .whole, o .total ∙ ap sizes (sym (o .from .records)))
+    (o .0 .from .between, o .1, o .0 .total ∙ ap sizes (sym (o .0 .from .pieces)))
 
 plan-if-requires-2 : tie.Need-plan-if-requires-2
 plan-if-requires-2 c κs = search needs
@@ -72,8 +72,8 @@ returns-7 c =
     let options = third .before in
     let start = options .before .before .before .before .args in
     let file : c .before .rest-after2 .result .total ≡ _ =
-    c .before .rest-after2 .ensures .total ∙ ap (λ (rs : List Rec). sizes (leftOver 128 rs)) (options .rest-after .ensures .from .records) in
-    with-both _ (recordsLeft (now (start .s)) 0) (start .permission) (options .before .before .if1 .left) (options .before .if2 .left) _ (options .rest-after .ensures .total) (third .if3 .left) (fifth .before .if4 .left) (fifth .if5 .left) _ file _ (c .plan-if2 .ensures)
+    c .before .rest-after2 .ensures .0 .total ∙ ap (λ (rs : List Rec). sizes (leftOver 128 rs)) (options .rest-after .ensures .0 .from .pieces) in
+    with-both _ (piecesLeft (now (start .s)) 0 0) (start .permission) (options .before .before .if1 .left) (options .before .if2 .left) _ (options .rest-after .ensures .0 .total) (third .if3 .left) (fifth .before .if4 .left) (fifth .if5 .left) _ file _ (c .plan-if2 .ensures)
 
 pub overload-plan-spec : {M : Type 1} → statement M
 overload-plan-spec =

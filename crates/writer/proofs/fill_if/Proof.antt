@@ -14,7 +14,7 @@ returns : tie.Need-returns
 returns c = rw (c .before .before .before .before .if1 .taken) (c .before .before .fill .ensures)
 
 returns-2 : tie.Need-returns-2
-returns-2 c = rw (c .if1 .left) (refl, record { records = refl; whole = c .before .before .before .pre })
+returns-2 c = rw (c .if1 .left) (refl, record { pieces = refl; spot-is = c .before .before .before .pre })
 
 pub fill-if-spec : {M : Type 1} → statement M
 fill-if-spec = tie.close (tie.spec fill-requires same-length returns returns-2)

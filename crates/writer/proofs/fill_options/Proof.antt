@@ -5,7 +5,7 @@ use lib.ListN.{length}
 use denote.Ref.{now}
 use native.Mathlib.Omega.{arith}
 use Rattle.options.specs.Message.{Rec}
-use Rattle.options.specs.SheetWalk.{recordsLeft}
+use Rattle.writer.specs.Fill.{piecesAt}
 use Rattle.writer.proofs.First.{alone, after, from52}
 use Rattle.writer.proofs.Parts.{room-52}
 use borrow.Author.Needs.{needs}
@@ -27,7 +27,7 @@ returns c =
     let branch = c .before .before .before .before in
     let start = branch .before .before .before .args in
     let call = c .before .before .fill in
-    alone (now (start .s)) (start .plan) _ (recordsLeft (now (start .s)) 0) (call .last .0) (call .result) (branch .if1 .taken) (call .ensures .0) (call .ensures .1)
+    alone (now (start .s)) (start .single) (start .plan) _ (piecesAt (now (start .s)) 0) (call .last .0) (call .result) (branch .if1 .taken) (call .ensures .0) (call .ensures .1)
 
 slice-aggregate-put-option : tie.Need-slice-aggregate-put-option
 slice-aggregate-put-option c = search needs
@@ -60,9 +60,9 @@ returns-2 c =
     let put = c .before .before .before .before .before .before in
     let branch = put .before .before .before in
     let start = branch .before .before .before .args in
-    let rs : List Rec = recordsLeft (now (start .s)) 0 in (
+    let rs : List Rec = piecesAt (now (start .s)) 0 in (
       after (start .plan) rs (branch .if1 .left) (now (start .field)) (put .put-option .last .0) (written .last .0) (four branch) (put .put-option .ensures) (written .ensures .0),
-      from52 (start .plan) rs (branch .if1 .left) (now (start .field)) (put .put-option .last .0) (written .last .0) (four branch) (put .put-option .ensures) (now (start .s)) (written .result) (written .ensures .1),
+      from52 (start .plan) rs (branch .if1 .left) (now (start .field)) (put .put-option .last .0) (written .last .0) (four branch) (put .put-option .ensures) (now (start .s)) (start .single) (written .result) (written .ensures .1),
     )
 
 pub fill-options-spec : {M : Type 1} → statement M

@@ -1,7 +1,8 @@
 -- `writer::write` meets its contract: a refusal leaves the buffer, and a plan that was chosen is written. Assumes nothing.
-use mathlib.Core.Path.{refl}
+use mathlib.Core.Path.{refl, ap}
 use denote.Ref.{now}
 use Rattle.options.specs.Writing.{writer}
+use Rattle.plan.specs.declared.Choice.the-variants.{Plan}
 use Rattle.writer.proofs.Used.{keeps, Used, used}
 use borrow.Author.Needs.{needs}
 use Rattle.writer.proofs.write.Statement.{statement}
@@ -23,23 +24,23 @@ uses-sname-requires : tie.Need-uses-sname-requires
 uses-sname-requires c κs = search needs
 
 -- the plan that was chosen
-planned : (c : tie.After-choice2) → Used (now (c .before .before .before .before .before .args .s)) (now (c .before .before .before .before .before .args .m)) (c .before .before .before .before .before .args .permission) (c .choice2 .given .0 .0)
+planned : (c : tie.After-choice2) → Used (now (c .before .before .before .before .before .args .s)) (now (c .before .before .before .before .before .args .m)) (c .before .before .before .before .before .args .permission) (c .choice2 .given .0 .0) (c .choice2 .given .0 .1 .0)
 planned c =
     let chosen = c .before .before in
     let start = chosen .before .before .before .args in
-    used (now (start .s)) (now (start .m)) (start .permission) _ (chosen .choose .result) (chosen .choose .ensures (now (start .m)) refl) (c .choice2 .given .1)
+    used (now (start .s)) (now (start .m)) (start .permission) _ _ (chosen .choose .result) (chosen .choose .ensures (now (start .m)) refl) (c .choice2 .given .1)
 
 write-plan-requires : tie.Need-write-plan-requires
 write-plan-requires c κs =
     let lent = c .before .before in
     let u = planned (lent .before .before) in
-    (u .long, u .room, u .whole, c .before .uses-file .ensures, c .uses-sname .ensures)
+    (u .long, u .room, u .spot, c .before .uses-file .ensures, c .uses-sname .ensures)
 
 returns : tie.Need-returns
 returns c =
     let chosen = c .before .before .before in
     let start = chosen .before .before .before .args in
-    keeps (writer _ (now (start .s)) (now (start .m)) (start .permission)) (now (start .m)) (chosen .choose .result) _ _ (chosen .choose .ensures (now (start .m)) refl) (c .before .choice .given .1)
+    keeps (now (start .s)) (writer _ (now (start .s)) (now (start .m)) (start .permission)) (now (start .m)) (chosen .choose .result) _ _ (chosen .choose .ensures (now (start .m)) refl) (c .before .choice .given .1)
 
 same-length : tie.Need-same-length
 same-length c = search needs
@@ -50,7 +51,7 @@ returns-2 c =
     let lent = call .before .before .before in
     let known = lent .before .before in
     let u = planned known in
-    rw (u .is) (record { answer = refl; buffer = call .write-plan .ensures })
+    rw (u .is) (record { answer = ap (Plan (known .choice2 .given .0 .0)) (u .answer); buffer = call .write-plan .ensures })
 
 pub write-spec : {M : Type 1} → statement M
 write-spec =

@@ -56,12 +56,17 @@ pub struct Origin {
     pub start: usize,
 }
 
-/// The answer of a lookup that is not refused.
+/// The answer of a lookup that is not refused. "Every answer names the first
+/// piece."
 #[derive(Clone, Copy, PartialEq, Eq, Debug)]
 pub enum Lookup {
     Absent,
-    Found(Origin, Content),
+    Found(Origin, Several, Content),
 }
+
+/// "where there are several pieces the answer also says so, with the whole
+/// joined length (trailing zeros counted)"
+pub type Several = Option<usize>;
 
 /// What a lookup says of a code that is there.
 #[derive(Clone, Copy, PartialEq, Eq, Debug)]

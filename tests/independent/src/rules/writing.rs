@@ -5,6 +5,10 @@ use super::kinds;
 use super::reading::{COOKIE, COOKIE_BYTES, END, FILE, LONGEST, OPTIONS, OVERLOAD, PAD, SNAME};
 
 pub const LONGEST_SHEET: usize = 4096;
+/// "13 is for data over 1,024 bytes"
+pub const LONGEST_RECORD: usize = 1024;
+/// A length byte counts no more.
+const LONGEST_PIECE: usize = 255;
 
 /// Where records begin in options after option 52.
 const OVERLOADED: usize = OPTIONS + 3;
@@ -24,6 +28,31 @@ fn split_record(sheet: &[u8]) -> Option<(Record<'_>, &[u8])> {
     let length = usize::from(u16::from_be_bytes([*high, *low]));
     let (data, rest) = rest.split_at_checked(length)?;
     Some((Record { tag: *tag, data }, rest))
+}
+
+/// What is left of a sheet to be put: the records from here on, but for the data
+/// bytes of the first that have been put.
+#[derive(Clone, Copy)]
+struct Left<'s> {
+    records: &'s [u8],
+    put: usize,
+}
+
+/// The next piece and what is left then: "The writer splits a record over 255
+/// bytes into pieces of 255 and a last of 1 to 255, in order".
+fn split_piece(left: Left<'_>) -> Option<(Record<'_>, Left<'_>)> {
+    let (Record { tag, data }, rest) = split_record(left.records)?;
+    let data = &data[left.put..];
+    if data.len() > LONGEST_PIECE {
+        let put = left.put + LONGEST_PIECE;
+        return Some((Record { tag, data: &data[..LONGEST_PIECE] }, Left { put, ..left }));
+    }
+    Some((Record { tag, data }, Left { records: rest, put: 0 }))
+}
+
+/// How many pieces a record of this length has.
+fn piece_count(length: usize) -> usize {
+    length.div_ceil(LONGEST_PIECE).max(1)
 }
 
 /// Writes the sheet into the buffer by the first permitted plan that fits,
@@ -73,7 +102,7 @@ fn judge_sheet(sheet: &[u8]) -> Result<usize, Refusal> {
             3 => tag_3 = Some(place),
             _ => (),
         }
-        size += 2 + record.data.len();
+        size += record.data.len() + 2 * piece_count(record.data.len());
     }
     // "14: tag 3 stands before tag 1"
     match tag_3_before_1 {
@@ -94,7 +123,7 @@ fn judge_record<'s>(
     if matches!(record.tag, PAD | OVERLOAD | END) {
         return refuse(10, place);
     }
-    if record.data.len() > 255 {
+    if record.data.len() > LONGEST_RECORD {
         return refuse(13, place);
     }
     if !tags.add(record.tag) {
@@ -130,35 +159,40 @@ fn choose(sheet: &[u8], size: usize, length: usize, permission: u8) -> Option<u8
     if OVERLOADED >= length {
         return None;
     }
-    let left = fill(sheet, length - OVERLOADED, |_, _| ()).0;
+    let left = fill(Left { records: sheet, put: 0 }, length - OVERLOADED, |_, _| ()).0;
     let mut plans = permitted_after_0(permission).iter().copied();
     plans.find(|&plan| takes(plan, left))
 }
 
-/// Whether the plan's file and sname take the records left by options.
-fn takes(plan: u8, mut left: &[u8]) -> bool {
+/// Whether the plan's file and sname take what is left by options.
+fn takes(plan: u8, mut left: Left) -> bool {
     if plan & 1 != 0 {
         left = fill(left, COOKIE - FILE, |_, _| ()).0;
     }
     if plan & 2 != 0 {
         left = fill(left, FILE - SNAME, |_, _| ()).0;
     }
-    left.is_empty()
+    left.records.is_empty()
 }
 
 /// "Records go in sheet order into the current field while each fits with one
-/// byte kept for END". Gives each record to `put` with its place in the room;
-/// gives the records that are left, and the room used.
-fn fill(sheet: &[u8], room: usize, mut put: impl FnMut(usize, &Record)) -> (&[u8], usize) {
+/// byte kept for END", and so do the pieces of a record, "each whole in a field".
+/// Gives each piece to `put` with its place in the room; gives what is left, and
+/// the room used.
+fn fill<'s>(
+    sheet: Left<'s>,
+    room: usize,
+    mut put: impl FnMut(usize, &Record),
+) -> (Left<'s>, usize) {
     let mut left = sheet;
     let mut used = 0;
-    while let Some((record, rest)) = split_record(left) {
+    while let Some((piece, rest)) = split_piece(left) {
         // "One option takes 2 bytes more than its data."
-        let size = 2 + record.data.len();
+        let size = 2 + piece.data.len();
         if used + size + 1 > room {
             break;
         }
-        put(used, &record);
+        put(used, &piece);
         used += size;
         left = rest;
     }
@@ -170,6 +204,7 @@ fn fill(sheet: &[u8], room: usize, mut put: impl FnMut(usize, &Record)) -> (&[u8
 fn put_message(sheet: &[u8], buffer: &mut [u8], plan: u8) {
     // "The cookie is written."
     buffer[COOKIE..OPTIONS].copy_from_slice(&COOKIE_BYTES);
+    let sheet = Left { records: sheet, put: 0 };
     if plan == 0 {
         put_field(sheet, &mut buffer[OPTIONS..]);
         return;
@@ -185,20 +220,20 @@ fn put_message(sheet: &[u8], buffer: &mut [u8], plan: u8) {
     }
 }
 
-/// Fills a field's room; gives the records that are left. "Every field of the
-/// plan gets its END; the rest of that field becomes zero."
-fn put_field<'s>(sheet: &'s [u8], room: &mut [u8]) -> &'s [u8] {
-    let (left, used) = fill(sheet, room.len(), |place, record| {
-        put_option(record, &mut room[place..]);
+/// Fills a field's room; gives what is left. "Every field of the plan gets its
+/// END; the rest of that field becomes zero."
+fn put_field<'s>(sheet: Left<'s>, room: &mut [u8]) -> Left<'s> {
+    let (left, used) = fill(sheet, room.len(), |place, piece| {
+        put_option(piece, &mut room[place..]);
     });
     room[used] = END;
     room[used + 1..].fill(0);
     left
 }
 
-fn put_option(record: &Record, room: &mut [u8]) {
-    let (option, _) = room.split_at_mut(2 + record.data.len());
-    option[0] = record.tag;
-    option[1] = record.data.len() as u8;
-    option[2..].copy_from_slice(record.data);
+fn put_option(piece: &Record, room: &mut [u8]) {
+    let (option, _) = room.split_at_mut(2 + piece.data.len());
+    option[0] = piece.tag;
+    option[1] = piece.data.len() as u8;
+    option[2..].copy_from_slice(piece.data);
 }

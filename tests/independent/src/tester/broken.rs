@@ -86,6 +86,21 @@ fn subjects() -> Vec<(&'static str, Subject)> {
         ("a broken answer without origin", Subject { lookup: broken_without_origin, ..own }),
         ("a broken answer without its place", Subject { lookup: broken_without_place, ..own }),
         ("a broken answer with a length", Subject { lookup: broken_with_length, ..own }),
+        ("several without their whole length", Subject { lookup: several_without_whole, ..own }),
+        ("several as another number", Subject { lookup: several_as_two, ..own }),
+        ("one piece with its whole length", Subject { lookup: one_with_whole, ..own }),
+        ("absent as several", Subject { lookup: absent_as_several, ..own }),
+        ("a refusal as several", Subject { lookup: refusal_as_several, ..own }),
+        (
+            "several with the whole as a number's length",
+            Subject { lookup: number_with_whole, ..own },
+        ),
+        ("copy writes the byte before the lent ones", Subject { copy: copy_before, ..own }),
+        ("copy writes the byte past the lent ones", Subject { copy: copy_past, ..own }),
+        ("a refused copy with a size", Subject { copy: refused_copy_with_size, ..own }),
+        ("a refused copy touches a byte", Subject { copy: refused_copy_writes, ..own }),
+        ("copy changes the message", Subject { copy: copy_changes_message, ..own }),
+        ("a copy of 0 bytes with a place", Subject { copy: empty_copy_with_place, ..own }),
         ("refused roll call with words", Subject { present: refused_with_words, ..own }),
         ("refused records with a size", Subject { records: refused_with_size, ..own }),
         ("refused write with a plan", Subject { write: refused_with_plan, ..own }),
@@ -188,6 +203,73 @@ wrong_lookup!(part_without_field, 4, field: 0);
 wrong_lookup!(broken_without_origin, 5, field: 0, offset: 0, start: 0);
 wrong_lookup!(broken_without_place, 5, place: 0);
 wrong_lookup!(broken_with_length, 5, length: 1);
+
+wrong_lookup!(absent_as_several, 0, several: 1);
+wrong_lookup!(refusal_as_several, 2, several: 1);
+
+/// A lookup whose answers of several pieces, or of one, are changed.
+macro_rules! wrong_several {
+    ($name:ident, $several:expr, |$answer:ident| $changed:expr) => {
+        unsafe extern "C" fn $name(
+            m: *const u8,
+            n: usize,
+            k0: u64,
+            k1: u64,
+            k2: u64,
+            k3: u64,
+            code: u8,
+        ) -> Answer {
+            let $answer = boundary::independent_lookup(m, n, k0, k1, k2, k3, code);
+            if $answer.field != 0 && $answer.several == $several {
+                return $changed;
+            }
+            $answer
+        }
+    };
+}
+
+wrong_several!(several_without_whole, 1, |answer| Answer { whole: 0, ..answer });
+wrong_several!(several_as_two, 1, |answer| Answer { several: 2, ..answer });
+wrong_several!(one_with_whole, 0, |answer| Answer { whole: answer.length, ..answer });
+wrong_several!(number_with_whole, 1, |answer| Answer {
+    length: if answer.status == 3 { answer.whole } else { answer.length },
+    ..answer
+});
+
+/// A copy before or after which something is done that it may not do.
+macro_rules! wrong_copy {
+    ($name:ident, |$m:ident, $out:ident, $room:ident, $filled:ident| $done:expr) => {
+        unsafe extern "C" fn $name(
+            $m: *const u8,
+            n: usize,
+            code: u8,
+            $out: *mut u8,
+            $room: usize,
+        ) -> Filled {
+            #[allow(unused_mut)]
+            let mut $filled = boundary::independent_copy($m, n, code, $out, $room);
+            $done;
+            $filled
+        }
+    };
+}
+
+wrong_copy!(copy_before, |_m, out, _room, filled| *out.sub(1) ^= 1);
+wrong_copy!(copy_past, |_m, out, room, filled| *out.add(room) ^= 1);
+wrong_copy!(refused_copy_with_size, |_m, _out, room, filled| if filled.refusal == 11 {
+    filled.size = room + 1;
+});
+wrong_copy!(refused_copy_writes, |_m, out, room, filled| if filled.refusal == 11 && room > 0 {
+    *out ^= 1;
+});
+wrong_copy!(copy_changes_message, |m, _out, _room, filled| if filled.size > 0 {
+    *m.cast_mut().add(240) ^= 1;
+});
+wrong_copy!(empty_copy_with_place, |_m, _out, room, filled| if filled.refusal + filled.size as u32
+    == 0
+{
+    filled.place = room;
+});
 
 unsafe extern "C" fn zeros_without_start(
     m: *const u8,

@@ -89,6 +89,16 @@ impl Run {
         self.bytes = bytes;
     }
 
+    /// One generated message with an option in pieces over two fields or three.
+    pub fn across(&mut self, seed: u64, index: u64) {
+        self.case = format!("across, seed {seed} index {index}");
+        let mut rng = Rng::of_case(seed, index);
+        let mut bytes = std::mem::take(&mut self.bytes);
+        messages::across(&mut rng, &mut bytes);
+        self.message(&mut rng, &bytes, index.is_multiple_of(100));
+        self.bytes = bytes;
+    }
+
     fn differ(&mut self, call: &str, theirs: &dyn Debug, ours: &dyn Debug) {
         if self.over() {
             return;
@@ -151,6 +161,7 @@ impl Run {
             for code in 0..=255 {
                 let known = known_set(rng, code);
                 self.ask(known, code);
+                self.copies(rng, code);
             }
         } else {
             self.some_codes(rng, words);
@@ -172,6 +183,7 @@ impl Run {
             for known in [Codes([u64::MAX; 4]), Codes::default(), single, but_one, random] {
                 self.ask(known, code);
             }
+            self.copies(rng, code);
         }
         self.input_unchanged();
     }
@@ -184,21 +196,29 @@ impl Run {
             if present.has(code) && rng.percent(share) {
                 let known = known_set(rng, code);
                 self.ask(known, code);
+                if rng.percent(60) {
+                    self.copies(rng, code);
+                }
             }
         }
         for _ in 0..3 {
             let code = if rng.percent(50) { rng.byte() } else { rng.between(1, 76) as u8 };
             let known = known_set(rng, code);
             self.ask(known, code);
+            if rng.percent(30) {
+                self.copies(rng, code);
+            }
         }
         if rng.percent(10) {
             let code = rng.pick(&[0, 52, 255]);
             let known = known_set(rng, code);
             self.ask(known, code);
+            self.copies(rng, code);
         }
     }
 
     fn present(&mut self) -> [u64; 4] {
+        self.counts.message(self.input.middle());
         let (m, n) = (self.input.pointer(), self.input.len());
         let theirs = unsafe { (self.subject.present)(m, n) };
         let ours = (self.yardstick.present)(self.input.middle());
@@ -231,6 +251,43 @@ impl Run {
         if answer.status == 4 && matches!(answer.kind, 2 | 3) {
             self.walk(data.start, data.length);
         }
+    }
+
+    /// The joined bytes of one code, in lent buffers of several lengths.
+    fn copies(&mut self, rng: &mut Rng, code: u8) {
+        let mut large = [0; 1500];
+        let whole = (self.yardstick.copy)(self.input.middle(), code, &mut large);
+        if whole.refusal != 0 {
+            let room = rng.pick(&[0, 0, 1, 7, 64, 1500]);
+            self.copy(rng, None, code, room);
+            return;
+        }
+        let size = whole.size;
+        self.copy(rng, Some(size), code, size);
+        if size > 0 {
+            self.copy(rng, Some(size), code, size - 1);
+        }
+        let room = match rng.below(8) {
+            0 | 1 => 0,
+            2 => rng.below(size + 1),
+            3 => size + 1,
+            4 => 1472 + rng.below(10),
+            _ => size + rng.below(100),
+        };
+        self.copy(rng, Some(size), code, room);
+    }
+
+    fn copy(&mut self, rng: &mut Rng, size: Option<usize>, code: u8, room: usize) {
+        self.theirs.any(rng, room);
+        self.ours.copy(&self.theirs);
+        let (m, n) = (self.input.pointer(), self.input.len());
+        let out = self.theirs.pointer();
+        let filled = unsafe { (self.subject.copy)(m, n, code, out, room) };
+        let ours = (self.yardstick.copy)(self.input.middle(), code, self.ours.middle_mut());
+        self.counts.copy(&filled, size, room);
+        let name = || format!("copy of code {code} into {room} bytes");
+        self.equal(name, &filled, &ours);
+        self.equal_lent(name);
     }
 
     /// Walks the addresses of a part of the input to the end.
@@ -376,7 +433,19 @@ impl Run {
         let room = bytes.len();
         self.records(rng, None, room);
         self.ask(Codes([u64::MAX; 4]), code);
+        self.copies(rng, code);
         self.input_unchanged();
+    }
+
+    /// One sheet into one buffer, and back from there.
+    pub fn write_and_back(&mut self, rng: &mut Rng, bytes: &[u8], room: usize, permission: u8) {
+        self.counts.sheets += 1;
+        self.hold_input(rng, bytes);
+        let accepted = self.write(rng, &Needs::of(bytes), room, permission);
+        self.input_unchanged();
+        if accepted {
+            self.read_back(rng, bytes);
+        }
     }
 
     /// One sheet into one buffer.

@@ -1,15 +1,20 @@
 //! What was exercised, and whether it was often enough.
 
+use super::messages::goes_across;
 use independent::boundary::{Address, Answer, Extent, Filled, Present, Wrote};
-use independent::rules::answers::Kind;
+use independent::rules::answers::{Codes, Kind};
 use independent::rules::kinds::kind_of;
-use independent::rules::reading::{COOKIE, FILE, OPTIONS, OVERLOAD, SNAME};
+use independent::rules::reading::{walk, COOKIE, FILE, OPTIONS, OVERLOAD, SNAME};
 
 /// How often each possible answer is to come in the short mode.
 const LEAST: u64 = 100;
 
 /// The answers that an option without data can have, by status. (A number has data.)
 const STATUS_EMPTY: [(usize, &str); 3] = [(1, "unknown"), (4, "68"), (5, "broken")];
+
+/// The answers that name a place, by status.
+const STATUS_FOUND: [(usize, &str); 4] =
+    [(1, "unknown"), (3, "number"), (4, "part"), (5, "broken")];
 
 /// Refusals by number; at 0 the calls that were not refused.
 type Refusals = [u64; 17];
@@ -20,8 +25,12 @@ pub struct Counts {
     pub lists: u64,
     pub calls: u64,
     pub read_back: u64,
+    /// Accepted messages with an option in pieces, and with one over two fields
+    /// or three.
+    split: [u64; 2],
     lookup: Refusals,
     present: Refusals,
+    copy: Refusals,
     records: Refusals,
     write: Refusals,
     /// Lookups by status and field: none, options, file, sname.
@@ -30,8 +39,16 @@ pub struct Counts {
     kind: [[u64; 3]; 12],
     /// Broken answers, by number (8, 9) and field.
     broken: [[u64; 3]; 2],
-    /// Answers of options without data, by status and field.
+    /// Answers of options in one piece without data, by status and field.
     empty: [[u64; 3]; 6],
+    /// Answers of options in several pieces, by status and field of the first.
+    several: [[u64; 3]; 6],
+    several_kind: [[u64; 3]; 12],
+    several_broken: [[u64; 3]; 2],
+    /// Of these, by their whole length: 0, up to 255, up to 1,024, more.
+    whole: [u64; 4],
+    /// Of these, the ones whose first piece is empty.
+    empty_first: u64,
     /// Answers of options that leave their field room for END alone, by field.
     last: [u64; 3],
     answered: [u64; 256],
@@ -52,6 +69,13 @@ pub struct Counts {
     step: [u64; 2],
     /// Lent sheets: exact, one short, longer, none at all.
     lent: [u64; 4],
+    /// Buffers lent to a copy, the same.
+    copied: [u64; 4],
+    /// Copies of absent codes.
+    copy_absent: u64,
+    /// Writes of sheets with a record over 255 bytes, by plan, and those that do
+    /// not fit.
+    long: [u64; 5],
 }
 
 impl Counts {
@@ -62,14 +86,21 @@ impl Counts {
             lists: 0,
             calls: 0,
             read_back: 0,
+            split: [0; 2],
             lookup: [0; 17],
             present: [0; 17],
+            copy: [0; 17],
             records: [0; 17],
             write: [0; 17],
             status: [[0; 4]; 6],
             kind: [[0; 3]; 12],
             broken: [[0; 3]; 2],
             empty: [[0; 3]; 6],
+            several: [[0; 3]; 6],
+            several_kind: [[0; 3]; 12],
+            several_broken: [[0; 3]; 2],
+            whole: [0; 4],
+            empty_first: 0,
             last: [0; 3],
             answered: [0; 256],
             unknown: [0; 256],
@@ -86,6 +117,20 @@ impl Counts {
             text: [0; 2],
             step: [0; 2],
             lent: [0; 4],
+            copied: [0; 4],
+            copy_absent: 0,
+            long: [0; 5],
+        }
+    }
+
+    /// A message that is read.
+    pub fn message(&mut self, message: &[u8]) {
+        let mut codes = Codes::default();
+        let mut pieces = false;
+        let read = walk(message, |met| pieces |= !codes.add(met.code));
+        if read.is_ok() && pieces {
+            self.split[0] += 1;
+            self.split[1] += u64::from(goes_across(message));
         }
     }
 
@@ -109,14 +154,30 @@ impl Counts {
             3 => 2,
             _ => return,
         };
+        let fault = (answer.refusal as usize).wrapping_sub(8);
         match status {
             3 | 4 => add_at(&mut self.kind, answer.kind as usize, field),
-            5 => add_at(&mut self.broken, (answer.refusal as usize).wrapping_sub(8), field),
+            5 => add_at(&mut self.broken, fault, field),
             _ => (),
         }
         let Some(&length) = message.get(answer.start.wrapping_sub(1)) else { return };
         let length = usize::from(length);
-        if length == 0 {
+        if answer.several != 0 {
+            add_at(&mut self.several, status, field);
+            match status {
+                3 | 4 => add_at(&mut self.several_kind, answer.kind as usize, field),
+                5 => add_at(&mut self.several_broken, fault, field),
+                _ => (),
+            }
+            let size = match answer.whole {
+                0 => 0,
+                1..=255 => 1,
+                256..=1024 => 2,
+                _ => 3,
+            };
+            self.whole[size] += 1;
+            self.empty_first += u64::from(length == 0);
+        } else if length == 0 {
             add_at(&mut self.empty, status, field);
         }
         if answer.start + length + 1 == [message.len(), COOKIE, FILE][field] {
@@ -160,16 +221,15 @@ impl Counts {
     pub fn records(&mut self, filled: &Filled, size: Option<usize>, room: usize) {
         self.calls += 1;
         add(&mut self.records, filled.refusal as usize);
-        let Some(size) = size else { return };
-        if room == size {
-            self.lent[0] += 1;
-        } else if room + 1 == size {
-            self.lent[1] += 1;
-        } else if room > size {
-            self.lent[2] += 1;
-        } else if room == 0 {
-            self.lent[3] += 1;
-        }
+        add_room(&mut self.lent, size, room);
+    }
+
+    /// `size` is what the code's bytes take.
+    pub fn copy(&mut self, filled: &Filled, size: Option<usize>, room: usize) {
+        self.calls += 1;
+        add(&mut self.copy, filled.refusal as usize);
+        add_room(&mut self.copied, size, room);
+        self.copy_absent += u64::from(size.is_none() && filled.refusal == 11);
     }
 
     /// `fit` is a plan whose smallest buffer this is; `short` a plan for
@@ -185,6 +245,9 @@ impl Counts {
         self.calls += 1;
         add(&mut self.write, wrote.refusal as usize);
         let tag = || usize::from(sheet.get(wrote.place).copied().unwrap_or(0));
+        if let (0 | 11, true) = (wrote.refusal, has_long(sheet)) {
+            add(&mut self.long, if wrote.refusal == 0 { wrote.plan as usize } else { 4 });
+        }
         match wrote.refusal {
             0 => {
                 let plan = wrote.plan as usize;
@@ -215,8 +278,11 @@ impl Counts {
             self.messages, self.sheets, self.lists, self.calls
         );
         println!("written messages read back as their sheet: {}", self.read_back);
+        let [pieces, across] = self.split;
+        println!("messages with an option in pieces: {pieces}, over several fields: {across}");
         print_refusals("lookup", &self.lookup);
         print_refusals("present", &self.present);
+        print_refusals("copy", &self.copy);
         print_refusals("records", &self.records);
         print_refusals("write", &self.write);
         let [absent, unknown, refused, number, part, broken] = self.status;
@@ -235,16 +301,30 @@ impl Counts {
             println!("  {what} of length 0: {:?}", self.empty[status]);
         }
         println!("  with room for END alone behind it: {:?}", self.last);
+        println!("lookup of several pieces, the first in options, file, sname:");
+        for (status, what) in STATUS_FOUND {
+            println!("  {what}: {:?}", self.several[status]);
+        }
+        for (i, fields) in self.several_kind.iter().enumerate().skip(1) {
+            println!("  kind {i}: {fields:?}");
+        }
+        let [by_8, by_9] = self.several_broken;
+        println!("  broken by 8: {by_8:?}, by 9: {by_9:?}");
+        println!("  of 0 bytes, to 255, to 1,024, more: {:?}", self.whole);
+        println!("  with an empty first piece: {}", self.empty_first);
         for (i, number) in (4..=7).enumerate() {
             println!("present: {number} in options, file, sname: {:?}", self.fault[i]);
         }
         println!("data: given {}, empty {}", self.data[1], self.data[0]);
         println!("text: given {}, empty {}", self.text[1], self.text[0]);
         println!("address step: given {}, done {}", self.step[1], self.step[0]);
+        println!("copy, lent exactly, one short, longer, none: {:?}", self.copied);
+        println!("copy of an absent code: {}", self.copy_absent);
         println!("records, lent exactly, one short, longer, none: {:?}", self.lent);
         for (permission, plans) in self.plan.iter().enumerate() {
             println!("write, permission {permission}: plans 0 to 3 used {plans:?}");
         }
+        println!("write, with a record over 255 bytes, plans 0 to 3 and no room: {:?}", self.long);
         println!("write, plans 0 to 3 at their exact fit: {:?}", self.fit);
         println!("write, refused one byte short of plans 0 to 3: {:?}", self.short);
         for (what, least) in [
@@ -271,6 +351,7 @@ impl Counts {
         let mut missing = Missing(Vec::new());
         missing.refusals("lookup", &self.lookup, &[0, 1, 2, 3, 4, 5, 6, 7, 10]);
         missing.refusals("present", &self.present, &[0, 1, 2, 3, 4, 5, 6, 7]);
+        missing.refusals("copy", &self.copy, &[0, 1, 2, 3, 4, 5, 6, 7, 10, 11]);
         missing.refusals("records", &self.records, &[0, 1, 2, 3, 4, 5, 6, 7, 11]);
         missing.refusals("write", &self.write, &[0, 1, 2, 7, 8, 9, 10, 11, 12, 13, 14, 15, 16]);
         missing.origins(&self.status);
@@ -283,13 +364,35 @@ impl Counts {
             missing.all(&format!("lookup {what} of length 0 by field"), &self.empty[status]);
         }
         missing.all("lookup of an option last in its field", &self.last);
-        for (i, fields) in self.fault.iter().enumerate() {
-            missing.all(&format!("present refusal {} by field", i + 4), fields);
+        for (status, what) in STATUS_FOUND {
+            missing
+                .all(&format!("lookup {what} of several pieces by field"), &self.several[status]);
+        }
+        for (i, fields) in self.several_kind.iter().enumerate().skip(1) {
+            missing.all(&format!("lookup kind {i} of several pieces by field"), fields);
+        }
+        missing.all("lookup of several pieces broken by 8 by field", &self.several_broken[0]);
+        missing.all("lookup of several pieces broken by 9 by field", &self.several_broken[1]);
+        missing.all("lookup of several pieces by whole length", &self.whole);
+        missing.one("lookup of several pieces, the first empty", self.empty_first);
+        missing.all("message with an option in pieces", &self.split);
+        // 7 comes from a second 52 alone, and in file and sname that is a 6.
+        let [truncated, no_end, overload, duplicate] = &self.fault;
+        for (number, fields) in
+            [(4, &truncated[..]), (5, no_end), (6, overload), (7, &duplicate[..1])]
+        {
+            missing.all(&format!("present refusal {number} by field"), fields);
+        }
+        if duplicate[1..] != [0, 0] {
+            missing.0.push("present refusal 7 came from an impossible field".to_string());
         }
         missing.all("data", &self.data);
         missing.all("text", &self.text);
         missing.all("address step", &self.step);
+        missing.all("copy lent", &self.copied);
+        missing.one("copy of an absent code", self.copy_absent);
         missing.all("records lent", &self.lent);
+        missing.all("write of a record over 255 bytes by plan", &self.long);
         // Under permission 3, what fits plan 2 fits plan 1, which is tried before.
         for (permission, plan) in [(0, 0), (1, 0), (1, 1), (2, 0), (2, 2), (3, 0), (3, 1), (3, 3)] {
             let count = self.plan[permission][plan];
@@ -318,6 +421,31 @@ fn add(counts: &mut [u64], at: usize) {
     if let Some(count) = counts.get_mut(at) {
         *count += 1;
     }
+}
+
+/// A room of so many bytes for what takes `size`: exact, one short, longer, none.
+fn add_room(counts: &mut [u64; 4], size: Option<usize>, room: usize) {
+    let Some(size) = size else { return };
+    if room == size {
+        counts[0] += 1;
+    } else if room + 1 == size {
+        counts[1] += 1;
+    } else if room > size {
+        counts[2] += 1;
+    } else if room == 0 {
+        counts[3] += 1;
+    }
+}
+
+/// Whether a sheet that was judged has a record over 255 bytes.
+fn has_long(mut sheet: &[u8]) -> bool {
+    while let [_, high, low, rest @ ..] = sheet {
+        if *high > 0 {
+            return true;
+        }
+        sheet = rest.get(usize::from(*low)..).unwrap_or(&[]);
+    }
+    false
 }
 
 fn print_refusals(call: &str, counts: &Refusals) {

@@ -18,6 +18,7 @@ extern "C" {
     fn dhcpopt_text(m: *const u8, n: usize, k0: u64, k1: u64, k2: u64, k3: u64, code: u8)
         -> Extent;
     fn dhcpopt_address_step(list: *const u8, n: usize, at: usize) -> Address;
+    fn dhcpopt_copy(m: *const u8, n: usize, code: u8, out: *mut u8, room: usize) -> Filled;
     fn dhcpopt_present(m: *const u8, n: usize) -> Present;
     fn dhcpopt_records(m: *const u8, n: usize, out: *mut u8, room: usize) -> Filled;
 }
@@ -33,6 +34,7 @@ pub fn library() -> Subject {
         data: dhcpopt_data,
         text: dhcpopt_text,
         address_step: dhcpopt_address_step,
+        copy: dhcpopt_copy,
         present: dhcpopt_present,
         records: dhcpopt_records,
         write: dhcpopt_write,

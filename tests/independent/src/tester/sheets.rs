@@ -7,6 +7,14 @@ use independent::rules::answers::Codes;
 use independent::rules::reading::{COOKIE, END, FILE, LONGEST, OPTIONS, OVERLOAD, SNAME};
 
 const LONGEST_SHEET: usize = 4096;
+const LONGEST_RECORD: usize = 1024;
+const LONGEST_PIECE: usize = 255;
+
+/// Lengths of records at which the number of pieces changes, and near them.
+const LONG: &[usize] = &[
+    256, 256, 257, 258, 264, 300, 316, 380, 508, 509, 510, 511, 512, 570, 640, 764, 765, 766, 890,
+    1016, 1020, 1021, 1023, 1024,
+];
 
 /// Puts one sheet into `out`.
 pub fn sheet(rng: &mut Rng, out: &mut Vec<u8>) {
@@ -153,11 +161,28 @@ impl<'r> Builder<'r> {
         }
     }
 
-    /// Over 255 bytes by its length, and often by its data.
+    /// A record over 255 bytes that the writer splits.
+    fn split_record(&mut self, room: usize) {
+        let mut tag = values::unbounded(self.rng);
+        for _ in 0..40 {
+            if self.take(tag) {
+                break;
+            }
+            tag = values::unbounded(self.rng);
+        }
+        let any = self.rng.between(256, LONGEST_RECORD);
+        let near = self.rng.pick(LONG);
+        let length = if self.rng.percent(70) { near } else { any }.min(room);
+        let at = self.head(tag);
+        values::long(self.rng, tag, length, self.out);
+        self.set_length(at);
+    }
+
+    /// Over 1,024 bytes by its length, and often by its data.
     fn long_record(&mut self, tag: u8) {
         let at = self.head(tag);
-        let any = self.rng.between(256, 65535);
-        let length = self.rng.pick(&[256, 256, 257, 300, 511, 512, 1000, 3000, 65535, any]);
+        let any = self.rng.between(1025, 65535);
+        let length = self.rng.pick(&[1025, 1025, 1026, 1280, 1500, 2048, 3000, 65535, any]);
         if length <= 3000 {
             self.rng.telling_bytes(length, self.out);
         }
@@ -191,19 +216,23 @@ fn good(rng: &mut Rng, out: &mut Vec<u8>) {
     let mut builder = Builder::new(rng, out);
     let size = match builder.rng.below(20) {
         0 => 0,
-        1..=9 => builder.rng.between(1, 60),
-        10..=15 => builder.rng.between(60, 260),
-        16 | 17 => builder.rng.between(260, 700),
-        18 => builder.rng.between(1150, 1480),
+        1..=7 => builder.rng.between(1, 60),
+        8..=12 => builder.rng.between(60, 260),
+        13..=16 => builder.rng.between(260, 700),
+        17 | 18 => builder.rng.between(1000, 1680),
         _ => builder.rng.between(700, LONGEST_SHEET),
     };
-    let limit = builder.rng.pick(&[4, 8, 16, 64, 128, 255, 255, 255]);
+    let limit = builder.rng.pick(&[4, 8, 16, 64, 128, 255, 255, 1024]);
     let snug = builder.rng.percent(30);
+    let split = size >= 300 && builder.rng.percent(60);
+    let turn = builder.rng.below(5);
     while builder.out.len() + 3 <= size {
         let room = size - builder.out.len() - 3;
         // A text or opaque record needs a byte, a pair of addresses eight.
         if room < 8 {
             builder.filler(room.min(limit));
+        } else if split && room > 258 && (builder.tags.len() == turn || builder.rng.percent(15)) {
+            builder.split_record(room);
         } else if snug {
             let most = builder.rng.pick(&[60, 61, 62, 124, 125, 126, 127]);
             builder.filler(most.min(room));
@@ -347,13 +376,18 @@ fn option_sizes(sheet: &[u8]) -> Option<Vec<usize>> {
     while at < sheet.len() {
         let head = sheet.get(at..at + 3)?;
         let length = usize::from(u16::from_be_bytes([head[1], head[2]]));
-        sizes.push(2 + length);
+        let mut left = length;
+        while left > LONGEST_PIECE {
+            sizes.push(2 + LONGEST_PIECE);
+            left -= LONGEST_PIECE;
+        }
+        sizes.push(2 + left);
         at += 3 + length;
     }
     (at == sheet.len()).then_some(sizes)
 }
 
-/// As many records as can leave options do so.
+/// As many pieces as can leave options do so.
 fn need(sizes: &[usize], plan: usize) -> usize {
     let rooms: &[usize] = match plan {
         0 => &[],
@@ -369,7 +403,7 @@ fn need(sizes: &[usize], plan: usize) -> usize {
     OPTIONS + overload + sizes[..kept].iter().sum::<usize>() + 1
 }
 
-/// Whether records fit into rooms one after the other.
+/// Whether pieces fit into rooms one after the other.
 fn flows(mut sizes: &[usize], rooms: &[usize]) -> bool {
     for room in rooms {
         let mut left = room - 1;

@@ -14,6 +14,7 @@ pub struct Subject {
     pub data: unsafe extern "C" fn(*const u8, usize, u8) -> Extent,
     pub text: AskedText,
     pub address_step: unsafe extern "C" fn(*const u8, usize, usize) -> Address,
+    pub copy: unsafe extern "C" fn(*const u8, usize, u8, *mut u8, usize) -> Filled,
     pub present: unsafe extern "C" fn(*const u8, usize) -> Present,
     pub records: unsafe extern "C" fn(*const u8, usize, *mut u8, usize) -> Filled,
     pub write: unsafe extern "C" fn(*const u8, usize, *mut u8, usize, u8) -> Wrote,
@@ -26,6 +27,7 @@ pub struct Yardstick {
     pub data: fn(&[u8], u8) -> Extent,
     pub text: fn(&[u8], Codes, u8) -> Extent,
     pub address_step: fn(&[u8], usize) -> Address,
+    pub copy: fn(&[u8], u8, &mut [u8]) -> Filled,
     pub present: fn(&[u8]) -> Present,
     pub records: fn(&[u8], &mut [u8]) -> Filled,
     pub write: fn(&[u8], &mut [u8], u8) -> Wrote,
@@ -42,6 +44,7 @@ macro_rules! yardstick {
                 let step = $($rules)::+::reading::address_step(list, at);
                 independent::boundary::Address::of_step(step, at)
             },
+            copy: |m, code, buffer| $($rules)::+::reading::copy(m, code, buffer).into(),
             present: |m| $($rules)::+::reading::present(m).into(),
             records: |m, sheet| $($rules)::+::reading::records(m, sheet).into(),
             write: |sheet, m, permission| {
@@ -65,6 +68,7 @@ pub fn own_exports() -> Subject {
         data: independent_data,
         text: independent_text,
         address_step: independent_address_step,
+        copy: independent_copy,
         present: independent_present,
         records: independent_records,
         write: independent_write,

@@ -66,6 +66,52 @@ pub fn data(rng: &mut Rng, code: u8, want: Want, limit: usize, out: &mut Vec<u8>
     out.truncate(from + limit);
 }
 
+/// Appends data of a length, good as far as the code's kind has such data.
+pub fn long(rng: &mut Rng, code: u8, length: usize, out: &mut Vec<u8>) {
+    let from = out.len();
+    match kind_of(code) {
+        Some(Kind::AddressList) => (0..length / 4).for_each(|_| word(rng, out)),
+        Some(Kind::AddressPairs) => {
+            for _ in 0..length / 8 {
+                destination(rng, code, out);
+                word(rng, out);
+            }
+        }
+        Some(Kind::List16) => {
+            let mut value = 68u16;
+            for _ in 0..length / 2 {
+                out.extend(value.to_be_bytes());
+                value = value.saturating_add(rng.pick(&[0, 0, 1, 60]));
+            }
+        }
+        Some(Kind::Text) => {
+            rng.telling_bytes(length, out);
+            let zeros = if rng.percent(50) { rng.below(length + 1) } else { 0 };
+            out[from + length - zeros..].fill(0);
+        }
+        _ => rng.telling_bytes(length, out),
+    }
+    if rng.percent(10) && out.len() > from {
+        let at = from + rng.below(out.len() - from);
+        out[at] = rng.telling_byte();
+    }
+    if rng.percent(5) {
+        out.truncate(out.len().saturating_sub(1).max(from));
+    }
+}
+
+/// A code whose data may be of any length, or of any multiple of its size.
+pub fn unbounded(rng: &mut Rng) -> u8 {
+    match rng.below(8) {
+        0 => rng.pick(&[3, 6, 41, 65, 68, 76]),
+        1 => rng.pick(&[21, 33]),
+        2 => 25,
+        3 => rng.pick(&[12, 15, 56, 66, 67]),
+        4 | 5 => rng.pick(&[43, 47, 55, 60, 61]),
+        _ => rowless(rng),
+    }
+}
+
 /// Often short, at times as long as it can be.
 fn free_length(rng: &mut Rng, least: usize, limit: usize) -> usize {
     let length = match rng.below(40) {

@@ -145,7 +145,10 @@ pub fn held(m: &[u8], code: u8) {
     if !sets(m, code, all.status) {
         word(b"sets?\n");
     }
-    if !as_told(dhcpopt_reader::dhcpopt_text(m, ALL, ALL, ALL, ALL, code), all) {
+    if !as_told(
+        dhcpopt_reader::dhcpopt_text(m, ALL, ALL, ALL, ALL, code),
+        all,
+    ) {
         word(b"text?\n");
     }
 }

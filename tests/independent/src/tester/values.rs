@@ -251,7 +251,8 @@ fn text(rng: &mut Rng, limit: usize, out: &mut Vec<u8>) {
 /// A byte over 127 in some place, or a zero with a byte behind it.
 fn spoil_text(rng: &mut Rng, from: usize, out: &mut [u8]) {
     let (length, end) = (out.len() - from, out.len());
-    let at = from + rng.pick(&[0, length / 2, rng.below(length), length - 1]);
+    let any = rng.below(length);
+    let at = from + rng.pick(&[0, length / 2, any, length - 1]);
     if rng.percent(60) || at + 1 == end {
         out[at] = rng.pick(&[128, 128, 129, 200, 254, 255]);
     } else {

@@ -289,10 +289,12 @@ fn bad_value(rng: &mut Rng, code: u8, limit: usize, out: &mut Vec<u8>) {
             rising(rng, limit, out);
             spoil_list(rng, from, out);
         }
-        Some(Kind::Text) if limit > 0 => {
+        Some(Kind::Text) => {
             let from = out.len();
             text(rng, limit, out);
-            spoil_text(rng, from, out);
+            if out.len() > from {
+                spoil_text(rng, from, out);
+            }
         }
         Some(Kind::AddressPairs) => {
             let from = out.len();

@@ -336,7 +336,10 @@ fn long_records() {
 fn texts() {
     for (data, length) in [("01 7F", 2), ("1F 00 00", 1), ("00 00", 0), ("61 7F 00", 2)] {
         let m = message(&format!("0C {:02X} {data} FF", hex(data).len()));
-        assert_eq!(lookup(&m, 12), found(Content::Part(Kind::Text, length), Field::Options, 0, 242));
+        assert_eq!(
+            lookup(&m, 12),
+            found(Content::Part(Kind::Text, length), Field::Options, 0, 242)
+        );
         let start = if length > 0 { 242 } else { 0 };
         assert_eq!(reading::text(&m, ALL, 12), Part { start, length });
         let sheet = [&[12, 0, hex(data).len() as u8], &hex(data)[..]].concat();

@@ -1,5 +1,5 @@
 /*
- * Runs the plain writer on cases worked by hand from document 01 and request 02 of document 02, each over a buffer of 0xA5.
+ * Runs the plain writer on cases worked by hand from document 01 and requests 02 and 03 of document 02, each over a buffer of 0xA5.
  *
  * Bytes are given in hex; `61*10` is ten bytes 61. A field that is given is followed by zeros, one that is not given stays as it was.
  */
@@ -122,6 +122,19 @@ static const trial trials[] = {
     {"21 00 08 00 00 00 00 C0 00 02 01", 300, 0, 9, 0, 0, 0, 0},
     {"21 00 10 00 00 00 01 00*4 00*4 C0 00 02 01", 300, 0, 9, 0, 0, 0, 0},
     {"15 00 08 00*8 21 00 08 00 00 00 01 00*4", 300, 0, 0, 0, "15 08 00*8 21 08 00 00 00 01 00*4 FF", 0, 0},
+
+    /* 9: a text has bytes from 1 to 127, trailing zeros left off; opaque data any. */
+    {"0C 00 01 7F 0F 00 04 01 1F 00 00 42 00 02 00 00", 300, 0, 0, 0, "0C 01 7F 0F 04 01 1F 00 00 42 02 00 00 FF", 0, 0},
+    {"0C 00 01 80", 300, 0, 9, 0, 0, 0, 0},
+    {"0C 00 03 C8 61 62", 300, 0, 9, 0, 0, 0, 0},
+    {"43 00 03 61 C8 62", 300, 0, 9, 0, 0, 0, 0},
+    {TYPE "38 00 04 61 FF 00 00", 300, 0, 9, 4, 0, 0, 0},
+    {"0E 00 03 61 00 62", 300, 0, 9, 0, 0, 0, 0},
+    {"40 00 02 00 61", 300, 0, 9, 0, 0, 0, 0},
+    {"0C 01 2C 61*299 80", 1472, 0, 9, 0, 0, 0, 0},
+    {"0C 01 2C 61*255 00 61*44", 1472, 0, 9, 0, 0, 0, 0},
+    {TEN "0C 00 01 80", 300, 0, 7, 13, 0, 0, 0},
+    {"3C 00 03 C8 00 61 2B 00 01 80", 300, 0, 0, 0, "3C 03 C8 00 61 2B 01 80 FF", 0, 0},
 
     /* The first faulty record is named, whatever is wrong with a later one. */
     {"35 00 01 FF 00", 300, 0, 9, 0, 0, 0, 0},

@@ -1,4 +1,4 @@
-/* The reader and writer of document 01, with requests 01 and 02 of document 02, in plain C: the measure for the library's calls. */
+/* The reader and writer of document 01, with requests 01 to 03 of document 02, in plain C: the measure for the library's calls. */
 #ifndef PLAIN_H
 #define PLAIN_H
 

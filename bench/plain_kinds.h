@@ -106,6 +106,13 @@ static bool value_fits(uint32_t kind, uint8_t c, const uint8_t *d, size_t n)
         }
         return true;
     }
+    case PLAIN_TEXT:
+        while (n > 0 && d[n - 1] == 0)
+            n--;
+        for (size_t i = 0; i < n; i++)
+            if (d[i] < 1 || d[i] > 127)
+                return false;
+        return true;
     default:
         return true;
     }

@@ -198,6 +198,29 @@ static void parts(void)
     CHECK(is_part(dhcpopt_data(message, n, 51), 0, 0));
 }
 
+/* Each byte of a text is 1 to 127, its trailing zeros left off: of one piece, of two that are joined, and of a sheet. */
+static void texts(void)
+{
+    static const uint8_t name[6] = {12, 0, 3, 'm', 0xc3, 0xa9};
+    dhcpopt_known all = dhcpopt_known_all();
+    content text = {DHCPOPT_STATUS_PART, DHCPOPT_KIND_TEXT, 0, 0, 0, 2};
+    content broken = {DHCPOPT_STATUS_BROKEN, 0, DHCPOPT_REFUSED_BAD_VALUE, 0, 240, 0};
+    origin first = {DHCPOPT_FIELD_OPTIONS, 0, 242};
+    size_t n = MESSAGE("\x0c\x03" "m\x7f\x00\xff");
+    CHECK(answers(dhcpopt_lookup_known(message, n, all, 12), text, first));
+    CHECK(is_part(dhcpopt_text_known(message, n, all, 12), 242, 2));
+    n = MESSAGE("\x0c\x03" "m\x80\x00\xff");
+    CHECK(answers(dhcpopt_lookup_known(message, n, all, 12), broken, first));
+    CHECK(is_part(dhcpopt_text_known(message, n, all, 12), 0, 0));
+    CHECK(is_part(dhcpopt_data(message, n, 12), 242, 3));
+    n = MESSAGE("\x0c\x02" "m\x00\x0c\x01" "x\xff");
+    CHECK(joins(dhcpopt_lookup_known(message, n, all, 12), broken, first, 3));
+    memset(message, 170, sizeof message);
+    dhcpopt_wrote w = dhcpopt_write(name, sizeof name, message, 300, DHCPOPT_OVERLOAD_NONE);
+    CHECK(w.refusal == DHCPOPT_REFUSED_BAD_VALUE && w.plan == 0 && w.place == 0);
+    CHECK(message[0] == 170 && memcmp(message, message + 1, sizeof message - 1) == 0);
+}
+
 static void address_step(void)
 {
     static const uint8_t list[9] = {192, 0, 2, 1, 192, 0, 2, 2, 7};
@@ -286,6 +309,7 @@ int main(void)
     origins();
     pieces();
     parts();
+    texts();
     address_step();
     present();
     records();

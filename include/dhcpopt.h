@@ -21,13 +21,14 @@
 
 /*
  * The version of this header: 100 * major + minor. The major number grows where a program must change (a call, a struct, the meaning
- * of an answer), the minor one where calls or names are added. The archives carry no version: take header and archives from one state.
+ * of an answer), the minor one where calls or names are added, or other data are right. The archives carry no version: take header and archives from one state.
  * 2.0: a lookup's answer says which field it comes from, and a broken option has a status of its own.
  * 3.0: a code may come in several pieces, in one field or over several (RFC 3396). A lookup answers for all of them together, and
  * dhcpopt_copy gives their bytes. docs/C-API.md, 'What changed in version 3', says what to do.
+ * 3.1: a text with a byte over 127, or with a zero before another byte, is broken (9), and the writer refuses it.
  */
 #define DHCPOPT_VERSION_MAJOR 3
-#define DHCPOPT_VERSION_MINOR 0
+#define DHCPOPT_VERSION_MINOR 1
 #define DHCPOPT_VERSION (100 * DHCPOPT_VERSION_MAJOR + DHCPOPT_VERSION_MINOR)
 
 #include <stddef.h>
@@ -97,7 +98,7 @@ enum dhcpopt_kind {
     DHCPOPT_KIND_UINT16_LIST = 7,   /* part: two bytes each, the high byte first */
     DHCPOPT_KIND_UINT32 = 8,        /* number */
     DHCPOPT_KIND_INT32 = 9,         /* number, may be negative: option 2, seconds east of UTC */
-    DHCPOPT_KIND_TEXT = 10,         /* part, without the trailing zeros. Not ended by a zero; any byte may stand in it */
+    DHCPOPT_KIND_TEXT = 10,         /* part, without the trailing zeros. Not ended by a zero; each byte is 1 to 127 */
     DHCPOPT_KIND_OPAQUE = 11        /* part */
 };
 
@@ -201,7 +202,7 @@ dhcpopt_extent dhcpopt_data(const uint8_t *message, size_t size, uint8_t code);
 
 /*
  * The text of a code, without its trailing zeros. Empty unless the lookup with the same known set answers with a text, and where the
- * code comes in several pieces.
+ * code comes in several pieces. So it is empty too where a byte is not 1 to 127: the lookup then says broken, and dhcpopt_data has the bytes.
  */
 dhcpopt_extent dhcpopt_text(const uint8_t *message, size_t size, uint64_t k0, uint64_t k1, uint64_t k2, uint64_t k3, uint8_t code);
 

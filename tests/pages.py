@@ -67,6 +67,9 @@ def value_right(rule, kind, data):
         return True
     if kind == "ADDRESS_PAIRS":
         return all(any(data[i:i + 4]) for i in range(0, len(data), 8))
+    if kind == "TEXT":
+        first, last = map(int, re.match(r"each byte (\d+) to (\d+)", rule).groups())
+        return all(first <= byte <= last for byte in data.rstrip(b"\0"))
     numbers = [int.from_bytes(data[i:i + 2], "big") for i in range(0, len(data), 2)] if kind.startswith("UINT16") else list(data)
     if kind == "UINT16_LIST":
         return all(n >= 68 for n in numbers) and numbers == sorted(numbers)
@@ -88,6 +91,8 @@ def samples(kind):
         return [a.to_bytes(2, "big") + b.to_bytes(2, "big") for a in (0, 67, 68, 69, 300) for b in (0, 67, 68, 69, 300, 65535)]
     if kind == "ADDRESS_PAIRS":
         return [first + bytes([1] * 4) + second + bytes(4) for first in (bytes(4), b"\0\0\0\1") for second in (bytes(4), b"\1\0\0\0")]
+    if kind in ("TEXT", "OPAQUE"):
+        return [bytes(data) for v in range(256) for data in ([v, 97], [97, v, 98], [97, v], [97, v, 0, 0])]
     return []
 
 

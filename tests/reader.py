@@ -1,4 +1,4 @@
-"""A reader of messages of its own, written from document 01 and requests 01 and 02 of document 02 alone."""
+"""A reader of messages of its own, written from document 01 and requests 01 to 03 of document 02 alone."""
 
 from typing import NamedTuple
 
@@ -20,7 +20,7 @@ KINDS = [
      lambda c, d: all(d[i:i + 2] >= max(b"\x00\x44", d[i - 2:i]) for i in range(0, len(d), 2))),
     ("unsigned32", "24 35 38 51 58 59", lambda c, n: n == 4, None),
     ("signed32", "2", lambda c, n: n == 4, None),
-    ("text", "12 14 15 17 18 40 56 64 66 67", lambda c, n: n > 0, None),
+    ("text", "12 14 15 17 18 40 56 64 66 67", lambda c, n: n > 0, lambda c, d: all(0 < byte < 128 for byte in d.rstrip(b"\0"))),
     ("opaque", "43 47 55 60", lambda c, n: n > 0, None),
     ("opaque", "61", lambda c, n: n > 1, None),
 ]

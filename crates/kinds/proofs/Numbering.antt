@@ -106,46 +106,15 @@ pub else-number : (n c : ℕ) (d : List ℕ) → Outside 4 3 n → numberFits (k
 else-number n c d h =
     rw (ne-eqb n 4 (h .0 .0 .1), ne-eqb n 5 (h .0 .1), ne-eqb n 6 (h .1)) (free c d (eqb n 1) (eqb n 2) (eqb n 3) (eqb n 7) (eqb n 8) (eqb n 9) (eqb n 10))
 
-module _ (n c : ℕ) (d : List ℕ) (p : n ≡ 3 → ⊥) (q : n ≡ 7 → ⊥) where
-  -- neither pairs nor numbers of 16 bits
-  abbrev rest : (a b e f g h i j : Bool) → Kind
-  rest a b e f g h i j =
-      cond a address (cond b addresses (cond e flag (cond f octet (cond g number16 (cond h unsigned32 (cond i signed32 (cond j text opaque)))))))
+-- neither pairs nor numbers of 16 bits nor text
+module _ (n c : ℕ) (d : List ℕ) (p : n ≡ 3 → ⊥) (q : n ≡ 7 → ⊥) (t : n ≡ 10 → ⊥) where
+  abbrev rest : (a b e f g h i : Bool) → Kind
+  rest a b e f g h i = cond a address (cond b addresses (cond e flag (cond f octet (cond g number16 (cond h unsigned32 (cond i signed32 opaque))))))
 
-  pub else-list : listFits (kindAt n) c d ≡ true
-  unfolding valueFits
-  else-list = rw (ne-eqb n 3 p, ne-eqb n 7 q) (go (eqb n 1) (eqb n 2) (eqb n 4) (eqb n 5) (eqb n 6) (eqb n 8) (eqb n 9) (eqb n 10))
+  pub else-unlisted : isList (kindAt n) ≡ false
+  else-unlisted = rw (ne-eqb n 3 p, ne-eqb n 7 q, ne-eqb n 10 t) (go (eqb n 1) (eqb n 2) (eqb n 4) (eqb n 5) (eqb n 6) (eqb n 8) (eqb n 9))
     where
-      go : (a b e f g h i j : Bool) → listFits (rest a b e f g h i j) c d ≡ true
-      go true b e f g h i j = refl
-      go false true e f g h i j = refl
-      go false false true f g h i j = refl
-      go false false false true g h i j = refl
-      go false false false false true h i j = refl
-      go false false false false false true i j = refl
-      go false false false false false false true j = refl
-      go false false false false false false false true = refl
-      go false false false false false false false false = refl
-
-  pub else-value : numberFits (kindAt n) c d ≡ valueFits (kindAt n) c d
-  unfolding valueFits
-  else-value = rw (ne-eqb n 3 p, ne-eqb n 7 q) (go (eqb n 1) (eqb n 2) (eqb n 4) (eqb n 5) (eqb n 6) (eqb n 8) (eqb n 9) (eqb n 10))
-    where
-      go : (a b e f g h i j : Bool) → numberFits (rest a b e f g h i j) c d ≡ valueFits (rest a b e f g h i j) c d
-      go true b e f g h i j = refl
-      go false true e f g h i j = refl
-      go false false true f g h i j = refl
-      go false false false true g h i j = refl
-      go false false false false true h i j = refl
-      go false false false false false true i j = refl
-      go false false false false false false true j = refl
-      go false false false false false false false true = refl
-      go false false false false false false false false = refl
-
-  pub else-unlisted : (n ≡ 10 → ⊥) → isList (kindAt n) ≡ false
-  else-unlisted t = rw (ne-eqb n 3 p, ne-eqb n 7 q, ne-eqb n 10 t) (go (eqb n 1) (eqb n 2) (eqb n 4) (eqb n 5) (eqb n 6) (eqb n 8) (eqb n 9))
-    where
-      go : (a b e f g h i : Bool) → isList (rest a b e f g h i false) ≡ false
+      go : (a b e f g h i : Bool) → isList (rest a b e f g h i) ≡ false
       go true b e f g h i = refl
       go false true e f g h i = refl
       go false false true f g h i = refl
@@ -154,6 +123,9 @@ module _ (n c : ℕ) (d : List ℕ) (p : n ≡ 3 → ⊥) (q : n ≡ 7 → ⊥) 
       go false false false false false true i = refl
       go false false false false false false true = refl
       go false false false false false false false = refl
+
+  pub else-list : listFits (kindAt n) c d ≡ true
+  else-list = rw else-unlisted
 
 -- what a kind makes of data that keeps its rules is not broken, and so no fault
 pub unbroken : (k : Kind) (d : List ℕ) → isBroken (meaning k d) ≡ false

@@ -6,9 +6,9 @@ use Prim.Native.Nat.{ℕ, zero, suc, _+_, _-_, _≤_, _<_}
 use native.Mathlib.Nat.{add-zero}
 use native.Mathlib.Omega.{arith}
 use borrow.Author.Tests.{le-leb, lt-leb, eq-eqb, ne-eqb}
-use lib.ListN.{length, getD, take, drop, length-drop}
-use lib.Seq.{take-suc, length-take-le, getD-drop, drop-drop}
-use Rattle.options.specs.Kinds.{trimmed, longer, pair16, word32, first16, first32, numbersOf, addressesOf, rising, noZeroFirst}
+use lib.ListN.{length, getD, take, drop, length-take, length-drop, drop-of-length-le}
+use lib.Seq.{take-suc, length-take-le, getD-take, getD-drop, drop-drop, drop-cons}
+use Rattle.options.specs.Kinds.{trimmed, longer, textByte, allText, pair16, word32, first16, first32, numbersOf, addressesOf, rising, noZeroFirst}
 
 -- ---- The end of a text
 
@@ -44,6 +44,37 @@ trim-stop t (suc j) p h e =
     ends : (y : ℕ) → (y ≡ 0 → ⊥) → trimmed (take j t ++ (y ∷ [])) ≡ suc j
     ends zero n = absurd (n refl)
     ends (suc y) n = trim-end (take j t) y ∙ ap suc (length-take-le j t (omega arith))
+
+longer-most : (x n : ℕ) → longer x n ≤ suc n
+longer-most zero zero = omega arith
+longer-most (suc x) zero = omega arith
+longer-most zero (suc n) = omega arith
+longer-most (suc x) (suc n) = omega arith
+
+-- a text ends within its bytes
+pub trimmed-within : (t : List ℕ) → trimmed t ≤ length t
+unfolding trimmed
+trimmed-within [] = omega arith
+trimmed-within (x ∷ xs) = omega (arith, longer-most x (trimmed xs), trimmed-within xs)
+
+-- ---- The bytes of a text of length n, from i on
+
+module _ (t : List ℕ) (n i : ℕ) where
+  pub text-end : n ≤ i → allText (drop i (take n t)) ≡ true
+  unfolding allText
+  text-end h = rw (drop-of-length-le (take n t) {i = i} (omega (arith, length-take n t)))
+
+  module _ (h : i < n) (l : n ≤ length t) where
+    head : drop i (take n t) ≡ getD t i 0 ∷ drop (suc i) (take n t)
+    head = drop-cons (take n t) i 0 (omega (arith, length-take-le n t l)) ∙ rw (getD-take n t i 0 h)
+
+    pub text-stop : textByte (getD t i 0) ≡ false → allText (drop i (take n t)) ≡ false
+    unfolding allText
+    text-stop e = rw (head, e)
+
+    pub text-next : textByte (getD t i 0) ≡ true → allText (drop i (take n t)) ≡ allText (drop (i + 1) (take n t))
+    unfolding allText
+    text-next e = let z : suc i ≡ i + 1 = omega arith in rw (head, e, ← z)
 
 -- ---- The numbers and the addresses from i on
 

@@ -4,7 +4,7 @@ ghost use mathlib.Core.List.{[], _∷_};
 ghost use Prim.Native.Nat.{_<_};
 ghost use lib.Dec.{leb, eqb};
 ghost use Rattle.options.specs.Reading.{among};
-ghost use Rattle.options.specs.Kinds.{kindOf, both, multiples, isLength, lengthFits, addressesOf, numbersOf, octetFits, number16Fits, rising, noZeroFirst, valueFits, trimmed};
+ghost use Rattle.options.specs.Kinds.{kindOf, both, multiples, isLength, lengthFits, addressesOf, numbersOf, octetFits, number16Fits, rising, noZeroFirst, trimmed, textFits, valueFits};
 ghost use Rattle.kinds.specs.Numbers.{kindNumber, kindAt, faultOf, faultAs, isList, listFits, numberFits};
 
 // The kinds as numbers (document 01, The kinds): its rows in their order, and 0 for a code that has none.
@@ -85,6 +85,21 @@ pub fn text_len(t: &[u8]) -> usize
     0
 }
 
+// Whether each byte of a text, its trailing zeros dropped, is 1 to 127 (document 02, request 03).
+pub fn text_fits(t: &[u8]) -> bool
+    ensures { λ r. ⌜ r ≡ textFits (now (t .entry)) ⌝ }
+{
+    let n = text_len(t);
+    let mut i: usize = 0;
+    while i < n {
+        if !from_one(t[i], 127) {
+            return false;
+        }
+        i = i + 1;
+    }
+    true
+}
+
 // How the data d breaks the row of the code c (document 01, The kinds, and Numbers given on refusal): 8 by its length, 9 by its value, and 0 where it
 // doesn't or there is no row.
 pub fn fault(c: u8, d: &[u8]) -> u8
@@ -153,11 +168,10 @@ fn stepped(n: usize, least: usize, unit: usize) -> bool
 fn value_fits(k: u8, c: u8, d: &[u8]) -> bool
     ensures { λ r. ⌜ r ≡ valueFits (kindAt k) c (now (d .entry)) ⌝ }
 {
-    match k {
-        PAIRS => list_fits(k, c, d),
-        NUMBERS16 => list_fits(k, c, d),
-        _ => number_fits(k, c, d),
+    if is_list(k) {
+        return list_fits(k, c, d);
     }
+    number_fits(k, c, d)
 }
 
 // Whether all bytes of data of the kind k are looked at, by its rule of value or for the answer. Of the other kinds the first four are enough.
@@ -184,6 +198,7 @@ pub fn list_fits(k: u8, c: u8, d: &[u8]) -> bool
             true
         }
         NUMBERS16 => never_falling(d),
+        TEXT => text_fits(d),
         _ => true,
     }
 }

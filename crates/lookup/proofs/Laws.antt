@@ -12,10 +12,10 @@ use lib.Seq.{take-at, getD-take}
 use borrow.Author.Tests.{eq-eqb, ne-eqb, eqb-true, eqb-false, le-leb, lt-leb}
 use Rattle.options.specs.Message.{Field, options, file, sname, start, bytes, Opt, dataStart, place, In, endToEnd, Standing}
 use Rattle.options.specs.Reading.{Reading, accepted, refused, readMessage, pieces}
-use Rattle.options.specs.Kinds.{Kind, address, addresses, pairs, flag, octet, number16, numbers16, unsigned32, signed32, text, opaque, kindOf, lengthFits, valueFits, first16, first32, trimmed, meaning, judged, broken, hasRow, judgedBy, kinds}
+use Rattle.options.specs.Kinds.{Kind, address, addresses, pairs, flag, octet, number16, numbers16, unsigned32, signed32, text, opaque, kindOf, lengthFits, first16, first32, trimmed, textFits, valueFits, meaning, judged, broken, hasRow, judgedBy, kinds}
 use Rattle.options.specs.KindClaims.{AllBytes}
 use Rattle.options.specs.Answers as asked
-use Rattle.kinds.specs.Numbers.{numberOf, kindNumber, faultOf, isList, listFits, numberFits}
+use Rattle.kinds.specs.Numbers.{numberOf, kindNumber, numberOfFault, faultOf, isList, listFits, numberFits}
 use Rattle.kinds.proofs.Numbering.{named, numbered, fault-broken, fault-kept}
 use Rattle.theorems.proofs.View.{clash}
 use Rattle.theorems.proofs.Fields.{option-in}
@@ -127,15 +127,24 @@ meant-else g signed32 d z = refl
 meant-else g text d z = absurd (z refl)
 meant-else g opaque d z = refl
 
-some-text : (c x : ℕ) (d : List ℕ) → kindOf c ≡ some text → faultOf c (x ∷ d) ≡ 0
-unfolding faultOf judged lengthFits valueFits meaning
-some-text c x d r = rw (r, le-leb 1 (suc (length d)) (omega arith), eq-eqb (suc (length d) % 1) 0 (omega arith))
+-- the verdict on a text, by its bytes
+text-unfit : (c : ℕ) (d : List ℕ) → kindOf c ≡ some text → textFits d ≡ false → faultOf c d ≡ 0 → ⊥
+unfolding faultOf judged valueFits
+text-unfit c d r f z = go (lengthFits text c (length d)) (rw (r, f) at z)
+  where
+    go : (long : Bool) → numberOfFault (cond long (broken 9) (broken 8)) ≡ 0 → ⊥
+    go true e = omega (arith, e)
+    go false e = omega (arith, e)
 
--- a text that breaks its kind is empty
-empty-text : (c : ℕ) (d : List ℕ) → kindOf c ≡ some text → (faultOf c d ≡ 0 → ⊥) → trimmed d ≡ 0
+some-text : (c x : ℕ) (d : List ℕ) → kindOf c ≡ some text → textFits (x ∷ d) ≡ true → faultOf c (x ∷ d) ≡ 0
+unfolding faultOf judged lengthFits valueFits meaning
+some-text c x d r f = rw (r, le-leb 1 (suc (length d)) (omega arith), eq-eqb (suc (length d) % 1) 0 (omega arith), f)
+
+-- a text with right bytes that breaks its kind is empty
+empty-text : (c : ℕ) (d : List ℕ) → kindOf c ≡ some text → textFits d ≡ true → (faultOf c d ≡ 0 → ⊥) → trimmed d ≡ 0
 unfolding trimmed
-empty-text c [] r z = refl
-empty-text c (x ∷ d) r z = absurd (z (some-text c x d r))
+empty-text c [] r f z = refl
+empty-text c (x ∷ d) r f z = absurd (z (some-text c x d r f))
 
 module _ (set : ℕ → Bool) (c : ℕ) (o : Opt) (d : List ℕ) where
   abbrev textHere : asked.Content → asked.Extent
@@ -151,12 +160,15 @@ module _ (set : ℕ → Bool) (c : ℕ) (o : Opt) (d : List ℕ) where
   unfolding meaning
   text-kept r e f = ap textHere (judged-kept set c d text r e f)
 
-  pub text-found : kindOf c ≡ some text → set c ≡ true → asked.extent (dataStart o) (trimmed d) ≡ textHere (asked.contentOf kinds set c d)
-  text-found r e = go (eqb (faultOf c d) 0) refl
+  pub text-lost : kindOf c ≡ some text → set c ≡ true → textFits d ≡ false → asked.noExtent ≡ textHere (asked.contentOf kinds set c d)
+  text-lost r e f = text-broken text r e (text-unfit c d r f)
+
+  pub text-found : kindOf c ≡ some text → set c ≡ true → textFits d ≡ true → asked.extent (dataStart o) (trimmed d) ≡ textHere (asked.contentOf kinds set c d)
+  text-found r e f = go (eqb (faultOf c d) 0) refl
     where
       go : (b : Bool) → eqb (faultOf c d) 0 ≡ b → asked.extent (dataStart o) (trimmed d) ≡ textHere (asked.contentOf kinds set c d)
       go true q = text-kept r e (eqb-true (faultOf c d) 0 q)
-      go false q = ap (asked.extent (dataStart o)) (empty-text c d r (eqb-false (faultOf c d) 0 q)) ∙ text-broken text r e (eqb-false (faultOf c d) 0 q)
+      go false q = ap (asked.extent (dataStart o)) (empty-text c d r f (eqb-false (faultOf c d) 0 q)) ∙ text-broken text r e (eqb-false (faultOf c d) 0 q)
 
   pub text-else : (kindNumber (kindOf c) ≡ 10 → ⊥) → asked.noExtent ≡ textHere (asked.contentOf kinds set c d)
   text-else y = row-of (kindOf c) refl
@@ -440,11 +452,15 @@ module _ (m : List ℕ) (c : ℕ) where
           pub text-not-marked : set c ≡ false → asked.noExtent ≡ asked.textOf set m c
           text-not-marked y = text-unmarked set c (here .option) (here .option .item .body) y ∙ text-of here
 
-          pub text-here : kindOf c ≡ some text → set c ≡ true → clipped (r .start) (trimmed (take (r .whole) (drop (r .start) m))) ≡ asked.textOf set m c
-          text-here k y =
+          pub text-not-fit : kindOf c ≡ some text → set c ≡ true → textFits (take (r .whole) (drop (r .start) m)) ≡ false → asked.noExtent ≡ asked.textOf set m c
+          text-not-fit k y f = text-lost set c (here .option) (here .option .item .body) k y (sym (ap textFits (here .own)) ∙ f) ∙ text-of here
+
+          pub text-here : kindOf c ≡ some text → set c ≡ true → textFits (take (r .whole) (drop (r .start) m)) ≡ true
+              → clipped (r .start) (trimmed (take (r .whole) (drop (r .start) m))) ≡ asked.textOf set m c
+          text-here k y f =
               ap₂ (λ (n : ℕ) (d : List ℕ). clipped n (trimmed d)) (here .start) (here .own)
               ∙ clip-is (dataStart (here .option)) (trimmed (here .option .item .body))
-              ∙ text-found set c (here .option) (here .option .item .body) k y
+              ∙ text-found set c (here .option) (here .option .item .body) k y (sym (ap textFits (here .own)) ∙ f)
               ∙ text-of here
 
         pub text-several : (r .start ≡ 0 → ⊥) → (r .last + 2 ≡ r .start → ⊥) → asked.noExtent ≡ asked.textOf set m c

@@ -392,7 +392,7 @@ pub fn data(m: &[u8], code: u8) -> &[u8]
     message::part(m, e.start, e.len)
 }
 
-// The text part of a code, once the message was walked. A text of length 0, which is refused, has an empty part as well.
+// The text part of a code, once the message was walked. No data at all, which breaks the kind, is a text of length 0 here: both have an empty part.
 fn text_in(m: &[u8], set: [u64; 4], code: u8, w: Scanned) -> Extent
     requires { ⌜ (code ≡ 0 → ⊥) × (code ≡ 255 → ⊥) × (w ≡ scanOf code (now m)) ⌝ }
     ensures { λ r. ⌜ extentOf r ≡ asked.textOf (marked set) (now (m .entry)) code ⌝ }
@@ -411,7 +411,11 @@ fn text_in(m: &[u8], set: [u64; 4], code: u8, w: Scanned) -> Extent
         return Extent { start: 0, len: 0 };
     }
     let end = start + w.whole;
-    clip(start, kinds::text_len(&m[start..end]))
+    let t = &m[start..end];
+    if !kinds::text_fits(t) {
+        return Extent { start: 0, len: 0 };
+    }
+    clip(start, kinds::text_len(t))
 }
 
 // Where the text of a code stands, without its trailing zeros; empty where it stands in several pieces.

@@ -1,7 +1,8 @@
-// What a line does not show, asked and compared: the answer as Rattle names it with that for C, and sets of known codes of one code, and of all but one. A line with a
-// question mark is printed where something differs, so that the output is another.
+// What a line does not show, asked and compared: the answer as Rattle names it with that for C, sets of known codes of one code, and of all but one, and the text's part
+// with the answer. A line with a question mark is printed where something differs, so that the output is another.
 use console::word;
 use dhcpopt_reader::PlainAnswer;
+use dhcpopt_reader::PlainExtent;
 use lookup::Answer;
 use lookup::Content;
 use lookup::Origin;
@@ -106,6 +107,23 @@ fn same_text(m: &[u8], code: u8, a: u64, b: u64, c: u64, d: u64) -> bool {
     v.length == 0
 }
 
+// Where all are known, the text's part is what the lookup tells of a text in one piece, and else empty.
+fn as_told(t: PlainExtent, a: PlainAnswer) -> bool {
+    if a.kind != 10 {
+        return t.length == 0;
+    }
+    if a.several == 1 {
+        return t.length == 0;
+    }
+    if t.length != a.length {
+        return false;
+    }
+    if a.length == 0 {
+        return t.start == 0;
+    }
+    t.start == a.start
+}
+
 fn sets(m: &[u8], code: u8, status: u32) -> bool {
     let a = bit(code, 0);
     let b = bit(code, 1);
@@ -126,5 +144,11 @@ pub fn held(m: &[u8], code: u8) {
     }
     if !sets(m, code, all.status) {
         word(b"sets?\n");
+    }
+    if !as_told(
+        dhcpopt_reader::dhcpopt_text(m, ALL, ALL, ALL, ALL, code),
+        all,
+    ) {
+        word(b"text?\n");
     }
 }

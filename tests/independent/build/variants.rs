@@ -446,6 +446,47 @@ const VARIANTS: &[Variant] = &[
         "data.iter().rposition(|&byte| byte != 0).map_or(0, |last| last + 1)",
         "data.len() - usize::from(data.last() == Some(&0))",
     ),
+    variant!("128 is text", "kinds.rs", "matches!(byte, 1..=127)", "matches!(byte, 1..=128)"),
+    variant!("127 is no text", "kinds.rs", "matches!(byte, 1..=127)", "matches!(byte, 1..=126)"),
+    variant!("1 is no text", "kinds.rs", "matches!(byte, 1..=127)", "matches!(byte, 2..=127)"),
+    variant!("control characters are no text", "kinds.rs", "matches!(byte, 1..=127)", "matches!(byte, 32..=127)"),
+    variant!("a zero inside is text", "kinds.rs", "matches!(byte, 1..=127)", "matches!(byte, 0..=127)"),
+    variant!("texts are not judged", "kinds.rs", "all(|&byte| is_text(byte))", "all(|&byte| is_text(byte) || true)"),
+    variant!("a text's zeros are judged", "kinds.rs", "data[..text_length(data)].iter().all", "data.iter().all"),
+    variant!("a text's first byte is not judged", "kinds.rs", "data[..text_length(data)].iter().all", "data[..text_length(data)].iter().skip(1).all"),
+    variant!(
+        "a text's last byte is not judged",
+        "kinds.rs",
+        "data[..text_length(data)].iter().all",
+        "data[..text_length(data).saturating_sub(1)].iter().all",
+    ),
+    variant!("opaque is judged as text", "kinds.rs", "        Kind::Text => data[", "        Kind::Text | Kind::Opaque => data["),
+    variant!("the first 255 bytes of a text are judged", "kinds.rs", "data[..text_length(data)].iter().all", "data[..text_length(data).min(255)].iter().all"),
+    variant!(
+        "9 before 8 for a text",
+        "kinds.rs",
+        "    if !length_fits(kind, code, data.len()) {\n        return Err(Fault::Length);",
+        "    if !length_fits(kind, code, data.len()) {\n        return Err(if kind == Kind::Text { Fault::Value } else { Fault::Length });",
+    ),
+    variant!(
+        "the first piece of a text alone is judged",
+        "reading.rs",
+        "    content(known, first, &joined[..whole])\n",
+        "    let all = content(known, first, &joined[..whole]);\n    \
+         match (all, kinds::kind_of(first.code)) {\n        \
+         (Content::Broken(refusal), Some(Kind::Text)) if refusal.number == 9 && kinds::judge(Kind::Text, first.code, first.data(message)).is_ok() => {\n            \
+         Content::Part(Kind::Text, kinds::text_length(&joined[..whole]))\n        }\n        \
+         (all, _) => all,\n    }\n",
+    ),
+    variant!(
+        "a broken text has its part",
+        "reading.rs",
+        "        Ok(Lookup::Found(origin, None, Content::Part(Kind::Text, length))) if length > 0 => {\n            \
+         Part { start: origin.start, length }\n        }\n",
+        "        Ok(Lookup::Found(origin, None, Content::Part(Kind::Text, length))) if length > 0 => {\n            \
+         Part { start: origin.start, length }\n        }\n        \
+         Ok(Lookup::Found(_, None, Content::Broken(_))) if kinds::kind_of(code) == Some(Kind::Text) => data(message, code),\n",
+    ),
     variant!("77 is a list", "kinds.rs", "69..=76", "69..=77"),
     variant!("63 is opaque", "kinds.rs", "60 | 61 => Some(Kind::Opaque)", "60 | 61 | 63 => Some(Kind::Opaque)"),
     variant!("62 has a row", "kinds.rs", "64 | 66 | 67 => Some(Kind::Text)", "62 | 64 | 66 | 67 => Some(Kind::Text)"),

@@ -1,4 +1,4 @@
-//! Document 01's bench table, row by row, and requests 01 and 02 of document 02,
+//! Document 01's bench table, row by row, and requests 01 to 03 of document 02,
 //! against this implementation alone.
 //! "Bytes in hex from 240 on, the cookie right, fields as named, all other
 //! bytes zero; every code is marked known."
@@ -290,12 +290,12 @@ fn long_option() {
 /// piece."
 #[test]
 fn pieces() {
-    let three = with_file("34 01 01 0C 02 61 00 FF", "0C 00 0C 03 62 00 00 FF");
+    let three = with_file("34 01 01 0C 02 61 63 FF", "0C 00 0C 03 62 00 00 FF");
     let text = Content::Part(Kind::Text, 3);
     assert_eq!(lookup(&three, 12), joined(text, 5, Field::Options, 3, 245));
     assert_eq!(reading::text(&three, ALL, 12), Part { start: 0, length: 0 });
-    assert_eq!(copied(&three, 12), hex("61 00 62 00 00"));
-    assert_eq!(sheet_of(&three), hex("0C 00 05 61 00 62 00 00"));
+    assert_eq!(copied(&three, 12), hex("61 63 62 00 00"));
+    assert_eq!(sheet_of(&three), hex("0C 00 05 61 63 62 00 00"));
     let lease = message("00 33 01 00 33 03 00 0E 10 FF");
     let number = Content::Number(Kind::Unsigned32, 3600);
     assert_eq!(lookup(&lease, 51), joined(number, 4, Field::Options, 1, 243));
@@ -328,4 +328,36 @@ fn long_records() {
     assert_eq!(writing::write(&sheet, &mut [9; 1472], 3), Err(refusal));
     let refusal = Refusal { number: 7, place: 4 };
     assert_eq!(writing::write(&hex("35 00 01 05 35 00 01 05"), &mut [9; 300], 0), Err(refusal));
+}
+
+/// Request 03: "Trailing zeros dropped, each byte of a text shall be 1 to 127";
+/// "lookup, text part and writer follow, on joined bytes. Refusals: 9"
+#[test]
+fn texts() {
+    for (data, length) in [("01 7F", 2), ("1F 00 00", 1), ("00 00", 0), ("61 7F 00", 2)] {
+        let m = message(&format!("0C {:02X} {data} FF", hex(data).len()));
+        assert_eq!(
+            lookup(&m, 12),
+            found(Content::Part(Kind::Text, length), Field::Options, 0, 242)
+        );
+        let start = if length > 0 { 242 } else { 0 };
+        assert_eq!(reading::text(&m, ALL, 12), Part { start, length });
+        let sheet = [&[12, 0, hex(data).len() as u8], &hex(data)[..]].concat();
+        assert_eq!(writing::write(&sheet, &mut [9; 300], 0), Ok(0));
+    }
+    for data in ["80", "61 80", "80 61", "61 C8 62", "61 80 00", "61 00 62", "00 61", "FF"] {
+        let m = message(&format!("0C {:02X} {data} FF", hex(data).len()));
+        assert_eq!(lookup(&m, 12), found(broken(9, 240), Field::Options, 0, 242));
+        assert_eq!(reading::text(&m, ALL, 12), Part { start: 0, length: 0 });
+        assert_eq!(reading::data(&m, 12), Part { start: 242, length: hex(data).len() });
+        let sheet = [&[12, 0, hex(data).len() as u8], &hex(data)[..]].concat();
+        let refusal = Refusal { number: 9, place: 0 };
+        assert_eq!(writing::write(&sheet, &mut [9; 300], 0), Err(refusal));
+    }
+    let second = message("0C 01 61 0C 01 80 FF");
+    assert_eq!(lookup(&second, 12), joined(broken(9, 240), 2, Field::Options, 0, 242));
+    let seam = with_file("34 01 01 0C 02 61 00 FF", "0C 01 62 FF");
+    assert_eq!(lookup(&seam, 12), joined(broken(9, 243), 3, Field::Options, 3, 245));
+    let m = message("3C 03 C8 00 61 FF");
+    assert_eq!(lookup(&m, 60), found(Content::Part(Kind::Opaque, 3), Field::Options, 0, 242));
 }

@@ -25,8 +25,15 @@ returns-3 : tie.Need-returns-3
 unfolding valueFits
 returns-3 c = rw (c .before .match .keys2) (c .never-falling .ensures)
 
+text-fits-requires : tie.Need-text-fits-requires
+text-fits-requires c κs = search needs
+
 returns-4 : tie.Need-returns-4
-returns-4 c = sym (else-list _ _ _ (c .match .rest .0 .1) (c .match .rest .1))
+unfolding valueFits
+returns-4 c = rw (c .before .match .keys3) (c .text-fits .ensures)
+
+returns-5 : tie.Need-returns-5
+returns-5 c = sym (else-list _ _ _ (c .match .rest .0 .0 .1) (c .match .rest .0 .1) (c .match .rest .1))
 
 pub list-fits-spec : {M : Type 1} → statement M
-list-fits-spec = tie.close (tie.spec destinations-fit-requires returns never-falling-requires returns-2 returns-3 returns-4)
+list-fits-spec = tie.close (tie.spec destinations-fit-requires returns never-falling-requires text-fits-requires returns-2 returns-3 returns-4 returns-5)

@@ -4,6 +4,7 @@ use native.Mathlib.Omega.{arith}
 use native.Mathlib.Nat.{add-sub-cancel-left}
 use mathlib.Core.Path.{_≡_, sym, _∙_}
 use mathlib.Core.List.{List}
+use mathlib.Core.Bool.{true}
 use mathlib.Core.Option.{some}
 use Prim.Native.Nat.{ℕ}
 use borrow.Author.Tests.{not-true, not-false, eqb-true, eqb-false}
@@ -15,7 +16,7 @@ use Rattle.kinds.specs.Numbers.{kindNumber}
 use Rattle.kinds.proofs.Numbering.{row}
 use Rattle.message.proofs.Callers.{all-bytes}
 use Rattle.message.proofs.Callers.{ScanAccepted}
-use Rattle.lookup.proofs.Laws.{last-short, One, one-met, met-accepted, text-absent, text-several, text-no-kind, text-not-marked, text-here}
+use Rattle.lookup.proofs.Laws.{last-short, One, one-met, met-accepted, text-absent, text-several, text-no-kind, text-not-marked, text-not-fit, text-here}
 use Rattle.lookup.proofs.text_in.Statement.{statement}
 use Rattle.lookup.proofs.text_in.Tie as tie
 
@@ -81,21 +82,44 @@ returns-4 c =
     let s = f .before .before in
     text-not-marked (s .args .m .now) (s .args .code) (s .pre .0) (s .pre .1) (s .args .w) (told f .0) (told f .1) (marked (s .args .set)) (f .if1 .left) (e .if2 .left) (sym (q .contains .ensures) ∙ not-true (q .contains .result) (c .if4 .taken))
 
+-- the code is a text's, and known
+of-text : (h : tie.Else4) → kindOf (h .before .before .before .before .before .before .before .before .args .code) ≡ some text
+of-text h =
+    let t = h .before .before in
+    let k = t .before in
+    is-text _ (eqb-true _ _ (sym (k .is-text .ensures) ∙ not-false (k .is-text .result) (t .if3 .left)))
+
+of-known : (h : tie.Else4) → let a = h .before .before .before .before .before .before .before .before .args in marked (a .set) (a .code) ≡ true
+of-known h = let q = h .before in sym (q .contains .ensures) ∙ not-false (q .contains .result) (h .if4 .left)
+
 add-end : tie.Need-add-end
 add-end c =
     let q = c .before .before in
     omega (arith, one (q .before .before .before) .within)
 
-sub-text-len : tie.Need-sub-text-len
-sub-text-len c = search needs
+sub-t : tie.Need-sub-t
+sub-t c = search needs
 
-part-text-len-start : tie.Need-part-text-len-start
-part-text-len-start c = search needs
+part-t-start : tie.Need-part-t-start
+part-t-start c = search needs
 
-part-text-len-end : tie.Need-part-text-len-end
-part-text-len-end c =
+part-t-end : tie.Need-part-t-end
+part-t-end c =
     let q = c .before .before in
     omega (arith, one (q .before .before .before) .within)
+
+text-fits-requires : tie.Need-text-fits-requires
+text-fits-requires c κs = search needs
+
+returns-5 : tie.Need-returns-5
+returns-5 c =
+    let x = c .before in
+    let h = x .before .before .before in
+    let e = h .before .before .before .before in
+    let f = e .before .before in
+    let s = f .before .before in
+    text-not-fit (s .args .m .now) (s .args .code) (s .pre .0) (s .pre .1) (s .args .w) (told f .0) (told f .1) (marked (s .args .set)) (f .if1 .left) (e .if2 .left) (of-text h) (of-known h)
+    (rw add-sub-cancel-left at (sym (x .text-fits .ensures) ∙ not-true (x .text-fits .result) (c .if5 .taken)))
 
 text-len-requires : tie.Need-text-len-requires
 text-len-requires c κs = search needs
@@ -103,20 +127,18 @@ text-len-requires c κs = search needs
 clip-requires : tie.Need-clip-requires
 clip-requires c κs = search needs
 
-returns-5 : tie.Need-returns-5
-returns-5 c =
+returns-6 : tie.Need-returns-6
+returns-6 c =
     let l = c .before in
-    let h = l .before .before .before in
-    let q = h .before in
-    let t = q .before in
-    let k = t .before in
-    let e = k .before in
+    let y = l .before in
+    let x = y .before in
+    let h = x .before .before .before in
+    let e = h .before .before .before .before in
     let f = e .before .before in
     let s = f .before .before in
     rw (c .clip .ensures, l .text-len .ensures, add-sub-cancel-left)
-    (text-here (s .args .m .now) (s .args .code) (s .pre .0) (s .pre .1) (s .args .w) (told f .0) (told f .1) (marked (s .args .set)) (f .if1 .left) (e .if2 .left)
-    (is-text (s .args .code) (eqb-true _ _ (sym (k .is-text .ensures) ∙ not-false (k .is-text .result) (t .if3 .left))))
-    (sym (q .contains .ensures) ∙ not-false (q .contains .result) (h .if4 .left)))
+    (text-here (s .args .m .now) (s .args .code) (s .pre .0) (s .pre .1) (s .args .w) (told f .0) (told f .1) (marked (s .args .set)) (f .if1 .left) (e .if2 .left) (of-text h) (of-known h)
+    (rw add-sub-cancel-left at (sym (x .text-fits .ensures) ∙ not-false (x .text-fits .result) (y .if5 .left))))
 
 pub text-in-spec : {M : Type 1} → statement M
 text-in-spec =
@@ -130,9 +152,11 @@ text-in-spec =
     contains-requires
     returns-4
     add-end
-    sub-text-len
-    part-text-len-start
-    part-text-len-end
+    sub-t
+    part-t-start
+    part-t-end
+    text-fits-requires
+    returns-5
     text-len-requires
     clip-requires
-    returns-5)
+    returns-6)

@@ -88,6 +88,7 @@ fn value_fits(kind: Kind, code: u8, data: &[u8]) -> bool {
         Kind::OneByte => octet_fits(code, data[0]),
         Kind::Number16 => number16(data) >= least16(code),
         Kind::List16 => rises_from_68(data),
+        Kind::Text => data[..text_length(data)].iter().all(|&byte| is_text(byte)),
         _ => true,
     }
 }
@@ -125,6 +126,11 @@ fn rises_from_68(data: &[u8]) -> bool {
         last = value;
     }
     true
+}
+
+/// Request 03: "Trailing zeros dropped, each byte of a text shall be 1 to 127"
+fn is_text(byte: u8) -> bool {
+    matches!(byte, 1..=127)
 }
 
 /// "Multi-byte numbers have the high byte first."

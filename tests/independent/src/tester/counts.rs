@@ -473,7 +473,7 @@ fn breaks_length(code: u8) -> bool {
 
 fn breaks_value(code: u8) -> bool {
     match kind_of(code) {
-        Some(Kind::Flag | Kind::List16) => true,
+        Some(Kind::Flag | Kind::List16 | Kind::Text) => true,
         Some(Kind::OneByte) => code != OVERLOAD,
         Some(Kind::Number16) => code != 13,
         Some(Kind::AddressPairs) => code == 33,

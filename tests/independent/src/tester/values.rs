@@ -5,7 +5,10 @@ use independent::rules::answers::Kind;
 use independent::rules::kinds::kind_of;
 
 /// The codes with a rule on their value, 52 apart.
-const JUDGED: &[u8] = &[19, 20, 22, 23, 25, 26, 27, 29, 30, 31, 33, 34, 36, 37, 39, 46, 53, 57];
+const JUDGED: &[u8] = &[
+    12, 14, 15, 17, 18, 19, 20, 22, 23, 25, 26, 27, 29, 30, 31, 33, 34, 36, 37, 39, 40, 46, 53, 56,
+    57, 64, 66, 67,
+];
 
 const COMMON: &[u8] = &[1, 2, 3, 6, 12, 25, 26, 33, 51, 53, 54, 57, 61, 67, 68];
 
@@ -85,7 +88,7 @@ pub fn long(rng: &mut Rng, code: u8, length: usize, out: &mut Vec<u8>) {
             }
         }
         Some(Kind::Text) => {
-            rng.telling_bytes(length, out);
+            text_bytes(rng, length, out);
             let zeros = if rng.percent(50) { rng.below(length + 1) } else { 0 };
             out[from + length - zeros..].fill(0);
         }
@@ -224,11 +227,18 @@ fn rising(rng: &mut Rng, limit: usize, out: &mut Vec<u8>) {
     }
 }
 
-/// Zeros at the end, in the middle, at the front, or alone.
+/// Bytes from 1 to 127, often at an end of that range.
+fn text_bytes(rng: &mut Rng, length: usize, out: &mut Vec<u8>) {
+    for _ in 0..length {
+        let any = rng.between(1, 127) as u8;
+        out.push(if rng.percent(40) { rng.pick(&[1, 31, 32, 126, 127]) } else { any });
+    }
+}
+
+/// Zeros at the end, or alone.
 fn text(rng: &mut Rng, limit: usize, out: &mut Vec<u8>) {
-    let from = out.len();
     let length = free_length(rng, 1, limit);
-    rng.telling_bytes(length, out);
+    text_bytes(rng, length, out);
     let zeros = match rng.below(8) {
         0 => length,
         1 => length.saturating_sub(1),
@@ -237,8 +247,18 @@ fn text(rng: &mut Rng, limit: usize, out: &mut Vec<u8>) {
     };
     let end = out.len();
     out[end - zeros..].fill(0);
-    if rng.percent(10) && length > 0 {
-        out[from] = 0;
+}
+
+/// A byte over 127 in some place, or a zero with a byte behind it.
+fn spoil_text(rng: &mut Rng, from: usize, out: &mut [u8]) {
+    let (length, end) = (out.len() - from, out.len());
+    let any = rng.below(length);
+    let at = from + rng.pick(&[0, length / 2, any, length - 1]);
+    if rng.percent(60) || at + 1 == end {
+        out[at] = rng.pick(&[128, 128, 129, 200, 254, 255]);
+    } else {
+        out[at] = 0;
+        out[rng.between(at + 1, end - 1)] = 97;
     }
 }
 
@@ -269,6 +289,13 @@ fn bad_value(rng: &mut Rng, code: u8, limit: usize, out: &mut Vec<u8>) {
             let from = out.len();
             rising(rng, limit, out);
             spoil_list(rng, from, out);
+        }
+        Some(Kind::Text) => {
+            let from = out.len();
+            text(rng, limit, out);
+            if out.len() > from {
+                spoil_text(rng, from, out);
+            }
         }
         Some(Kind::AddressPairs) => {
             let from = out.len();

@@ -25,7 +25,7 @@
  * 2.0: a lookup's answer says which field it comes from, and a broken option has a status of its own.
  * 3.0: a code may come in several pieces, in one field or over several (RFC 3396). A lookup answers for all of them together, and
  * dhcpopt_copy gives their bytes. docs/C-API.md, 'What changed in version 3', says what to do.
- * 3.1: a text with a byte over 127, or with a zero before another byte, is broken (9), and the writer refuses it.
+ * 3.1: a text with a byte over 127, or with a zero before a byte that is not 0, is broken (9), and the writer refuses it.
  */
 #define DHCPOPT_VERSION_MAJOR 3
 #define DHCPOPT_VERSION_MINOR 1
@@ -202,7 +202,8 @@ dhcpopt_extent dhcpopt_data(const uint8_t *message, size_t size, uint8_t code);
 
 /*
  * The text of a code, without its trailing zeros. Empty unless the lookup with the same known set answers with a text, and where the
- * code comes in several pieces. So it is empty too where a byte is not 1 to 127: the lookup then says broken, and dhcpopt_data has the bytes.
+ * code comes in several pieces. So it is empty too where a byte before the trailing zeros is not 1 to 127: the lookup then says broken, or
+ * unknown where the code is not in the known set. The bytes are given by dhcpopt_copy, and by dhcpopt_data where they are in one piece.
  */
 dhcpopt_extent dhcpopt_text(const uint8_t *message, size_t size, uint64_t k0, uint64_t k1, uint64_t k2, uint64_t k3, uint8_t code);
 

@@ -9,36 +9,40 @@
 enum { SNAME = 44, FILE_FIELD = 108, COOKIE = 236, OPTIONS = 240, LONGEST = 1472 };
 enum { PAD = 0, OVERLOAD = 52, END = 255 };
 
+/* Request 04: the kinds by ranges of codes, first and last, in rising order. */
+static const struct range {
+    uint8_t first, last, kind;
+} RANGES[] = {
+    {1, 1, PLAIN_ADDRESS}, {2, 2, PLAIN_SIGNED32}, {3, 11, PLAIN_ADDRESSES}, {12, 12, PLAIN_TEXT},
+    {13, 13, PLAIN_NUMBER16}, {14, 15, PLAIN_TEXT}, {16, 16, PLAIN_ADDRESS}, {17, 18, PLAIN_TEXT},
+    {19, 20, PLAIN_FLAG}, {21, 21, PLAIN_PAIRS}, {22, 22, PLAIN_NUMBER16}, {23, 23, PLAIN_OCTET},
+    {24, 24, PLAIN_UNSIGNED32}, {25, 25, PLAIN_NUMBERS16}, {26, 26, PLAIN_NUMBER16},
+    {27, 27, PLAIN_FLAG}, {28, 28, PLAIN_ADDRESS}, {29, 31, PLAIN_FLAG}, {32, 32, PLAIN_ADDRESS},
+    {33, 33, PLAIN_PAIRS}, {34, 34, PLAIN_FLAG}, {35, 35, PLAIN_UNSIGNED32}, {36, 36, PLAIN_FLAG},
+    {37, 37, PLAIN_OCTET}, {38, 38, PLAIN_UNSIGNED32}, {39, 39, PLAIN_FLAG}, {40, 40, PLAIN_TEXT},
+    {41, 42, PLAIN_ADDRESSES}, {43, 43, PLAIN_OPAQUE}, {44, 45, PLAIN_ADDRESSES},
+    {46, 46, PLAIN_OCTET}, {47, 47, PLAIN_OPAQUE}, {48, 49, PLAIN_ADDRESSES},
+    {50, 50, PLAIN_ADDRESS}, {51, 51, PLAIN_UNSIGNED32}, {52, 53, PLAIN_OCTET},
+    {54, 54, PLAIN_ADDRESS}, {55, 55, PLAIN_OPAQUE}, {56, 56, PLAIN_TEXT}, {57, 57, PLAIN_NUMBER16},
+    {58, 59, PLAIN_UNSIGNED32}, {60, 61, PLAIN_OPAQUE}, {64, 64, PLAIN_TEXT},
+    {65, 65, PLAIN_ADDRESSES}, {66, 67, PLAIN_TEXT}, {68, 76, PLAIN_ADDRESSES},
+};
+
+enum { RANGE_COUNT = sizeof RANGES / sizeof *RANGES };
+_Static_assert(RANGE_COUNT <= 64, "no array of more than 64 rows");
+
+/* The first range that doesn't end before the code, by halves. */
 static uint32_t kind_of(uint8_t c)
 {
-    switch (c) {
-    case 1: case 16: case 28: case 32: case 50: case 54:
-        return PLAIN_ADDRESS;
-    case 3: case 4: case 5: case 6: case 7: case 8: case 9: case 10: case 11:
-    case 41: case 42: case 44: case 45: case 48: case 49: case 65: case 68:
-    case 69: case 70: case 71: case 72: case 73: case 74: case 75: case 76:
-        return PLAIN_ADDRESSES;
-    case 21: case 33:
-        return PLAIN_PAIRS;
-    case 19: case 20: case 27: case 29: case 30: case 31: case 34: case 36: case 39:
-        return PLAIN_FLAG;
-    case 23: case 37: case 46: case 52: case 53:
-        return PLAIN_OCTET;
-    case 13: case 22: case 26: case 57:
-        return PLAIN_NUMBER16;
-    case 25:
-        return PLAIN_NUMBERS16;
-    case 24: case 35: case 38: case 51: case 58: case 59:
-        return PLAIN_UNSIGNED32;
-    case 2:
-        return PLAIN_SIGNED32;
-    case 12: case 14: case 15: case 17: case 18: case 40: case 56: case 64: case 66: case 67:
-        return PLAIN_TEXT;
-    case 43: case 47: case 55: case 60: case 61:
-        return PLAIN_OPAQUE;
-    default:
-        return PLAIN_NO_ROW;
+    size_t low = 0, high = RANGE_COUNT;
+    while (low < high) {
+        size_t middle = (low + high) / 2;
+        if (RANGES[middle].last < c)
+            low = middle + 1;
+        else
+            high = middle;
     }
+    return low < RANGE_COUNT && RANGES[low].first <= c ? RANGES[low].kind : PLAIN_NO_ROW;
 }
 
 static uint32_t number16(const uint8_t *d)

@@ -9,6 +9,7 @@ use Prim.Native.Nat.{ℕ, _≤_}
 use lib.Dec.{eqb}
 use Rattle.options.specs.Reading.{either}
 use Rattle.options.specs.Kinds.{Kind, address, addresses, pairs, flag, octet, number16, numbers16, unsigned32, signed32, text, opaque, Lengths, isLength, Values, any, between, oneOf, atLeast, risingFrom, destinations, ascii, valueFault, Row, rows, kindBy, fault, Value, broken, number, part, kinds}
+use Rattle.options.specs.Answers.{isText}
 use Rattle.ranges.specs.Rows.{rowFrom}
 
 abbrev pub numberOf : Kind → ℕ
@@ -122,21 +123,8 @@ ofEach (risingFrom least) = true
 ofEach destinations = true
 ofEach ascii = true
 
--- the kind whose meaning looks at every data byte; that of the others looks at no more than the first four
-abbrev pub isText : Kind → Bool
-isText address = false
-isText addresses = false
-isText pairs = false
-isText flag = false
-isText octet = false
-isText number16 = false
-isText numbers16 = false
-isText unsigned32 = false
-isText signed32 = false
-isText text = true
-isText opaque = false
-
--- the rows by which every data byte is looked at
+-- the rows by which every data byte is looked at: by their rule of value, or for the meaning, where a text ends; for the meaning of another kind no more
+-- than the first four are looked at
 abbrev pub isList : Option Row → Bool
 isList none = false
 isList (some r) = either (ofEach (r .values)) (isText (r .kind))

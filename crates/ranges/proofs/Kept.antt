@@ -39,3 +39,16 @@ kept i (r ∷ rs) c h = by (among c (r .codes)) (kept (suc i) rs c (omega arith)
 pub numbers-keep-the-row : NumbersKeepTheRow
 unfolding rowNumber rowOf
 numbers-keep-the-row c = kept 1 rows c (omega arith)
+
+unnumbered : (i : ℕ) (rs : List Row) (c : ℕ) → rowIn rs c ≡ none → numberIn i rs c ≡ 0
+unnumbered i [] c e = refl
+unnumbered i (r ∷ rs) c e = by (among c (r .codes)) (unnumbered (suc i) rs c) e
+  where
+    by : (b : Bool) → (rowIn rs c ≡ none → numberIn (suc i) rs c ≡ 0) → cond b (some r) (rowIn rs c) ≡ none → cond b i (numberIn (suc i) rs c) ≡ 0
+    by true h q = absurd (let z : _≡_ {A = ℕ} 0 1 = cc in omega arith)
+    by false h q = h q
+
+-- a code without a row has the number 0
+pub no-number : (c : ℕ) → rowOf c ≡ none → rowNumber c ≡ 0
+unfolding rowNumber rowOf
+no-number c e = unnumbered 1 rows c e

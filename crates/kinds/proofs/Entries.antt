@@ -1,6 +1,5 @@
--- A `match` on a byte: the keys of an arm; and a test, computed over all bytes, holds in the last arm. Assumes nothing.
+-- A `match` on a byte: a test, computed over all bytes, holds in the last arm. Assumes nothing.
 use mathlib.Core.Bool.{Bool, true, _&&_, _||_}
-use mathlib.Core.List.{List, [], _∷_}
 use mathlib.Core.Logic.{inl, inr}
 use Prim.Native.Nat.{ℕ, zero, suc, _<_}
 use native.Mathlib.Omega.{arith}
@@ -11,10 +10,15 @@ use mir.Syntax.{Body, skip, seq, assign, block, loop, cond, switch, exit, return
 use mir.Val.{hasKey}
 use types.Run.{OneOf, hit}
 
--- the arms of the `match` that a body begins with; none for any other body
+-- the arms of the first `match` of a body that has no block or branch before it; none for any other body
+abbrev orElse : Arms → Arms → Arms
+orElse (arm ks b arms) rest = arm ks b arms
+orElse (default b) rest = default b
+orElse noDefault rest = rest
+
 abbrev pub armsOf : Body → Arms
 armsOf (switch x arms) = arms
-armsOf (seq a b) = armsOf a
+armsOf (seq a b) = orElse (armsOf a) (armsOf b)
 armsOf skip = noDefault
 armsOf (assign p v) = noDefault
 armsOf (block a) = noDefault
@@ -23,13 +27,6 @@ armsOf (cond x a b) = noDefault
 armsOf (exit n) = noDefault
 armsOf return = noDefault
 armsOf (call f xs p) = noDefault
-
--- the keys of arm i, counted from 0
-abbrev pub keys : Arms → ℕ → List ℕ
-keys (arm ks b arms) zero = ks
-keys (arm ks b arms) (suc i) = keys arms i
-keys (default b) i = []
-keys noDefault i = []
 
 -- ---- The last arm
 
@@ -45,7 +42,7 @@ abbrev pub allBelow : (ℕ → Bool) → ℕ → Bool
 allBelow test zero = true
 allBelow test (suc n) = test n && allBelow test n
 
-all-below : (test : ℕ → Bool) (n : ℕ) → T (allBelow test n) → (c : ℕ) → c < n → T (test c)
+pub all-below : (test : ℕ → Bool) (n : ℕ) → T (allBelow test n) → (c : ℕ) → c < n → T (test c)
 all-below test zero t c h = absurd (omega arith)
 all-below test (suc n) t c h =
     let p : T (test n) × T (allBelow test n) = and-yes (test n) (allBelow test n) t in

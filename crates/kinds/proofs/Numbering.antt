@@ -1,18 +1,19 @@
 -- Kinds and their numbers. Assumes nothing.
 use mathlib.Core.Path.{_≡_, refl, sym, ap, _∙_}
 use mathlib.Core.Bool.{Bool, true, false, cond}
-use mathlib.Core.List.{List}
+use mathlib.Core.List.{List, []}
 use mathlib.Core.Option.{Option, none, some}
-use Prim.Native.Nat.{ℕ, zero, suc, _+_, _≤_}
+use Prim.Native.Nat.{ℕ, zero, suc, _+_, _%_, _≤_}
 use native.Mathlib.Omega.{arith}
 use borrow.Author.Tests.{ne-eqb}
 use lib.Dec.{eqb}
 use lib.ListN.{length}
 use Rattle.options.specs.SheetWalk.{isBroken}
-use Rattle.options.specs.Kinds.{Kind, address, addresses, pairs, flag, octet, number16, numbers16, unsigned32, signed32, text, opaque, Value, broken, number, part, Row, rowOf, kindBy, kindOf, fault, unless, meaning, judged, judgedBy, kinds}
-use Rattle.ranges.specs.Rows.{rowNumber}
-use Rattle.ranges.proofs.Kept.{numbers-keep-the-row}
-use Rattle.kinds.specs.Numbers.{numberOf, kindNumber, kindAt, kindFrom, NumbersKeepTheKind, numberOfFault, faultOf, FaultsKeepTheNumber, rowAt, kindNumbered, faultIn, faultNumbered, lengthFits, valueFaultIn}
+use Rattle.options.specs.Kinds.{Kind, address, addresses, pairs, flag, octet, number16, numbers16, unsigned32, signed32, text, opaque, Value, broken, number, part, Row, rows, rowOf, kindBy, kindOf, fault, unless, meaning, judged, judgedBy, kinds}
+use Rattle.ranges.specs.Rows.{numberOf, rowFrom, rowNumber}
+use Rattle.ranges.proofs.Kept.{numbers-keep-the-row, no-number, from-kind}
+use Rattle.kinds.proofs.Rules.{opaque-else}
+use Rattle.kinds.specs.Numbers.{kindNumber, kindAt, kindFrom, NumbersKeepTheKind, numberOfFault, faultOf, FaultsKeepTheNumber, orElse, rowAt, kindNumbered, faultIn, faultNumbered, lengthFits, valueFaultIn}
 
 pub named : (k : Kind) → kindAt (numberOf k) ≡ k
 named address = refl
@@ -144,13 +145,50 @@ faults-keep-the-number c d n = (λ e. (broken-number (rowOf c) d n e, ap numberO
 
 -- ---- The number of a code's row, and the row with a number
 
-pub row-of : (c : ℕ) → rowAt (rowNumber c) ≡ rowOf c
+at-row : (n : ℕ) (r : Row) → rowFrom [] rows n ≡ some r → rowAt n ≡ some r
 unfolding rowAt
-row-of c = numbers-keep-the-row c
+at-row n r q = rw q
+
+pub row-zero : rowAt 0 ≡ none
+unfolding rowAt
+row-zero = refl
+
+pub row-of : (c : ℕ) → rowAt (rowNumber c) ≡ rowOf c
+row-of c = go (rowOf c) refl
+  where
+    found : (r : Row) → rowFrom [] rows (rowNumber c) ≡ some r → rowAt (rowNumber c) ≡ some r
+    found r q = at-row (rowNumber c) r q
+
+    go : (o : Option Row) → rowOf c ≡ o → rowAt (rowNumber c) ≡ o
+    go none e = ap rowAt (no-number c e) ∙ row-zero
+    go (some r) e = found r (numbers-keep-the-row c ∙ e)
+
+-- the number of a row's kind
+pub kind-of-row : (n : ℕ) (r : Row) → rowAt n ≡ some r → n % 16 ≡ numberOf (r .kind)
+unfolding rowAt
+kind-of-row n r e = go (rowFrom [] rows n) refl e
+  where
+    go : (o : Option Row) → rowFrom [] rows n ≡ o → orElse o (rowFrom [] rows (n % 16)) ≡ some r → n % 16 ≡ numberOf (r .kind)
+    go none q z = omega (arith, from-kind [] rows (n % 16) r z)
+    go (some x) q z = from-kind [] rows n r (q ∙ z)
+
+pub no-kind : (n : ℕ) → rowAt n ≡ none → kindAt (n % 16) ≡ opaque
+unfolding rowAt
+no-kind n e = go (rowFrom [] rows n) e
+  where
+    as-opaque : (k : Kind) → numberOf k ≡ 11 → k ≡ opaque
+    as-opaque k q = sym (named k) ∙ ap kindAt q
+
+    go : (o : Option Row) → orElse o (rowFrom [] rows (n % 16)) ≡ none → kindAt (n % 16) ≡ opaque
+    go none z = as-opaque (kindAt (n % 16)) (opaque-else (n % 16) (omega arith) z)
+    go (some x) z = absurd (let y : _≡_ {A = ℕ} 0 1 = cc in omega arith)
 
 pub kind-numbered : (c : ℕ) → kindNumbered (rowNumber c) ≡ kindNumber (kindOf c)
-unfolding kindNumbered
-kind-numbered c = ap (λ (o : Option Row). kindNumber (kindBy o)) (row-of c)
+kind-numbered c = go (rowOf c) refl
+  where
+    go : (o : Option Row) → rowOf c ≡ o → kindNumbered (rowNumber c) ≡ kindNumber (kindBy o)
+    go none e = rw (no-number c e)
+    go (some r) e = kind-of-row (rowNumber c) r (row-of c ∙ e)
 
 -- a row, or none, breaks data as its verdict says
 fault-in : (o : Option Row) (d : List ℕ) → faultIn o d ≡ numberOfFault (judgedBy o d)
@@ -175,9 +213,9 @@ fault-rules (some r) d = refl
 
 -- the verdict, by the fault and by the kind
 pub judged-as : (n : ℕ) (d : List ℕ) → judgedBy (rowAt n) d ≡ unless (faultNumbered n d) (meaning (kindAt (kindNumbered n)) d)
-unfolding faultNumbered kindNumbered judged meaning
-judged-as n d = go (rowAt n)
+unfolding faultNumbered judged meaning
+judged-as n d = go (rowAt n) refl
   where
-    go : (o : Option Row) → judgedBy o d ≡ unless (faultIn o d) (meaning (kindAt (kindNumber (kindBy o))) d)
-    go none = refl
-    go (some r) = rw (named (r .kind))
+    go : (o : Option Row) → rowAt n ≡ o → judgedBy o d ≡ unless (faultIn o d) (meaning (kindAt (n % 16)) d)
+    go none e = rw (no-kind n e)
+    go (some r) e = rw (kind-of-row n r e, named (r .kind))

@@ -1,29 +1,16 @@
 -- THE KINDS AS NUMBERS: 1 to 11 in the order of document 01's table, 0 for a code without a row; and the number of a fault, 8 or 9, or 0 for none.
 -- Assumes nothing.
 use mathlib.Core.Path.{_≡_}
-use mathlib.Core.List.{List}
+use mathlib.Core.List.{List, []}
 use mathlib.Core.Bool.{Bool, true, false, cond}
 use mathlib.Core.Logic.{_↔_}
 use mathlib.Core.Option.{Option, none, some}
-use Prim.Native.Nat.{ℕ, _≤_}
+use Prim.Native.Nat.{ℕ, _%_, _≤_}
 use lib.Dec.{eqb}
 use Rattle.options.specs.Reading.{either}
 use Rattle.options.specs.Kinds.{Kind, address, addresses, pairs, flag, octet, number16, numbers16, unsigned32, signed32, text, opaque, Lengths, isLength, Values, any, between, oneOf, atLeast, risingFrom, destinations, ascii, valueFault, Row, rows, kindBy, fault, Value, broken, number, part, kinds}
 use Rattle.options.specs.Answers.{isText}
-use Rattle.ranges.specs.Rows.{rowFrom}
-
-abbrev pub numberOf : Kind → ℕ
-numberOf address = 1
-numberOf addresses = 2
-numberOf pairs = 3
-numberOf flag = 4
-numberOf octet = 5
-numberOf number16 = 6
-numberOf numbers16 = 7
-numberOf unsigned32 = 8
-numberOf signed32 = 9
-numberOf text = 10
-numberOf opaque = 11
+use Rattle.ranges.specs.Rows.{numberOf, rowFrom}
 
 abbrev pub kindNumber : Option Kind → ℕ
 kindNumber none = 0
@@ -73,14 +60,17 @@ faultOf c d = numberOfFault (kinds .value c d)
 
 -- ---- By the number of a row
 
--- the row with a number: none for 0, and for a number that no row has
+-- the row with a number; a number that no row has counts as the first row of its kind, where it has a kind
+abbrev pub orElse : Option Row → Option Row → Option Row
+orElse (some r) o = some r
+orElse none o = o
+
 unfoldable pub rowAt : ℕ → Option Row
-rowAt n = rowFrom 1 rows n
+rowAt n = orElse (rowFrom [] rows n) (rowFrom [] rows (n % 16))
 
 -- its kind as a number, and how the data d breaks it; no row is broken by nothing
-unfoldable pub kindNumbered : ℕ → ℕ
-unfolding rowAt
-kindNumbered n = kindNumber (kindBy (rowAt n))
+abbrev pub kindNumbered : ℕ → ℕ
+kindNumbered n = n % 16
 
 abbrev pub faultIn : Option Row → List ℕ → ℕ
 faultIn none d = 0

@@ -1,10 +1,11 @@
 // The kinds of options (document 01, The kinds, by code): the kind of a code, the rules of length and of value.
 ghost use mathlib.Core.Path.{_≡_};
 ghost use mathlib.Core.List.{[], _∷_};
-ghost use Prim.Native.Nat.{_<_};
+ghost use Prim.Native.Nat.{_<_, _%_};
 ghost use Rattle.options.specs.Reading.{among};
 ghost use Rattle.options.specs.Kinds.{kindOf, multiples, isLength, addressesOf, numbersOf, rising, noZeroFirst, trimmed, fromTo, textFits, orNine};
 ghost use Rattle.kinds.specs.Numbers.{kindNumber, rowAt, kindNumbered, faultOf, faultNumbered, lengthFits, valueFaultIn, isList, listFault, numberFault};
+ghost use Rattle.kinds.specs.Parts.{octetFits, number16Fits};
 
 // The kinds as numbers (document 01, The kinds): its rows in their order, and 0 for a code that has none.
 pub const NO_ROW: u8 = 0;
@@ -31,29 +32,29 @@ pub const TEXT: u8 = 10;
 
 pub const OPAQUE: u8 = 11;
 
-// The kind of a row, by the row's number (crates/ranges/specs/Rows.antt: 1 to 19); 0 where there is none.
+// The numbers of the rows (crates/ranges/specs/Rows.antt) have that of their kind in the low four bits. The first row of a kind has the number of the kind;
+// these are the others, by their codes.
+const ROW_68: u8 = ADDRESSES + 16;
+
+const ROW_33: u8 = PAIRS + 16;
+
+const ROW_46: u8 = OCTET + 16;
+
+const ROW_52: u8 = OCTET + 32;
+
+const ROW_53: u8 = OCTET + 48;
+
+const ROW_22: u8 = NUMBER16 + 16;
+
+const ROW_26: u8 = NUMBER16 + 32;
+
+const ROW_61: u8 = OPAQUE + 16;
+
+// The kind of a row, by the row's number; 0 for no row.
 pub fn kind_of(row: u8) -> u8
     ensures { λ r. ⌜ r ≡ kindNumbered row ⌝ }
 {
-    match row {
-        1 => ADDRESS,
-        2 => ADDRESSES,
-        3 => ADDRESSES,
-        4 => PAIRS,
-        5 => PAIRS,
-        6 => FLAG,
-        7 | 9 => OCTET,
-        8 | 10 => OCTET,
-        11 | 13 => NUMBER16,
-        12 => NUMBER16,
-        14 => NUMBERS16,
-        15 => UNSIGNED32,
-        16 => SIGNED32,
-        17 => TEXT,
-        18 => OPAQUE,
-        19 => OPAQUE,
-        _ => NO_ROW,
-    }
+    row % 16
 }
 
 // The kind of the code c, as a number (document 01, The kinds, by code).
@@ -111,27 +112,32 @@ pub fn fault_in(row: u8, d: &[u8]) -> u8
     value_fault(row, d)
 }
 
-// The rule of length of a row.
+// The rule of length of a row; 68 may also have length 0, and 61 has at least 2.
 pub fn length_fits(row: u8, n: usize) -> bool
     ensures { λ r. ⌜ r ≡ lengthFits (rowAt row) n ⌝ }
 {
-    match row {
-        1 | 15 => n == 4,
-        16 => n == 4,
-        2 => stepped(n, 4, 4),
-        // 68 may also have length 0
-        3 => stepped(n, 0, 4),
-        4 => stepped(n, 8, 8),
-        5 => stepped(n, 8, 8),
-        6 | 8 | 10 => n == 1,
-        7 | 9 => n == 1,
-        11 | 13 => n == 2,
-        12 => n == 2,
-        14 => stepped(n, 2, 2),
-        17 => stepped(n, 1, 1),
-        18 => stepped(n, 1, 1),
-        // 61: 2 or more
-        19 => stepped(n, 2, 1),
+    match row % 16 {
+        ADDRESS => n == 4,
+        ADDRESSES => {
+            if row == ROW_68 {
+                return stepped(n, 0, 4);
+            }
+            stepped(n, 4, 4)
+        }
+        PAIRS => stepped(n, 8, 8),
+        FLAG => n == 1,
+        OCTET => n == 1,
+        NUMBER16 => n == 2,
+        NUMBERS16 => stepped(n, 2, 2),
+        UNSIGNED32 => n == 4,
+        SIGNED32 => n == 4,
+        TEXT => stepped(n, 1, 1),
+        OPAQUE => {
+            if row == ROW_61 {
+                return stepped(n, 2, 1);
+            }
+            stepped(n, 1, 1)
+        }
         _ => true,
     }
 }
@@ -161,10 +167,10 @@ fn value_fault(row: u8, d: &[u8]) -> u8
 pub fn is_list(row: u8) -> bool
     ensures { λ r. ⌜ r ≡ isList (rowAt row) ⌝ }
 {
-    match row {
-        5 => true,
-        14 => true,
-        17 => true,
+    match row % 16 {
+        PAIRS => row == ROW_33,
+        NUMBERS16 => true,
+        TEXT => true,
         _ => false,
     }
 }
@@ -173,13 +179,15 @@ pub fn is_list(row: u8) -> bool
 pub fn list_fault(row: u8, d: &[u8]) -> u8
     ensures { λ r. ⌜ r ≡ listFault (rowAt row) (now (d .entry)) ⌝ }
 {
-    match row {
-        // 33
-        5 => or_nine(destinations_fit(d)),
-        // 25
-        14 => or_nine(never_falling(d)),
-        // texts
-        17 => or_nine(text_fits(d)),
+    match row % 16 {
+        PAIRS => {
+            if row == ROW_33 {
+                return or_nine(destinations_fit(d));
+            }
+            0
+        }
+        NUMBERS16 => or_nine(never_falling(d)),
+        TEXT => or_nine(text_fits(d)),
         _ => 0,
     }
 }
@@ -188,18 +196,36 @@ pub fn list_fault(row: u8, d: &[u8]) -> u8
 pub fn number_fault(row: u8, d: &[u8]) -> u8
     ensures { λ r. ⌜ r ≡ numberFault (rowAt row) (now (d .entry)) ⌝ }
 {
-    match row {
-        // flags
-        6 => or_nine(from_to(num::byte(d, 0), 0, 1)),
-        // 23 and 37; 46; 52; 53
-        7 => or_nine(from_to(num::byte(d, 0), 1, 255)),
-        8 => or_nine(one_of_four(num::byte(d, 0))),
-        9 => or_nine(from_to(num::byte(d, 0), 1, 3)),
-        10 => or_nine(from_to(num::byte(d, 0), 1, 8)),
-        // 22 and 57; 26
-        12 => or_nine(576 <= num::first16(d)),
-        13 => or_nine(68 <= num::first16(d)),
+    match row % 16 {
+        FLAG => or_nine(from_to(num::byte(d, 0), 0, 1)),
+        OCTET => or_nine(octet_fits(row, num::byte(d, 0))),
+        NUMBER16 => or_nine(number16_fits(row, num::first16(d))),
         _ => 0,
+    }
+}
+
+// 46: 1, 2, 4 or 8; 52: 1 to 3; 53: 1 to 8; 23 and 37: 1 to 255.
+fn octet_fits(row: u8, v: u8) -> bool
+    requires { ⌜ row % 16 ≡ 5 ⌝ }
+    ensures { λ r. ⌜ r ≡ octetFits (rowAt row) v ⌝ }
+{
+    match row {
+        ROW_46 => one_of_four(v),
+        ROW_52 => from_to(v, 1, 3),
+        ROW_53 => from_to(v, 1, 8),
+        _ => from_to(v, 1, 255),
+    }
+}
+
+// 22 and 57: at least 576; 26: at least 68; 13: any.
+fn number16_fits(row: u8, v: u16) -> bool
+    requires { ⌜ row % 16 ≡ 6 ⌝ }
+    ensures { λ r. ⌜ r ≡ number16Fits (rowAt row) v ⌝ }
+{
+    match row {
+        ROW_22 => 576 <= v,
+        ROW_26 => 68 <= v,
+        _ => true,
     }
 }
 

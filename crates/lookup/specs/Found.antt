@@ -53,7 +53,7 @@ meaningOf opaque n d = part opaque n
 
 -- the verdict on them of the row with a number, by its rule of length and by what its rule of value says, a fault's number or 0
 unfoldable pub judgedOf : ℕ → ℕ → ℕ → List ℕ → Value
-unfolding rowAt kindNumbered meaningOf
+unfolding rowAt meaningOf
 judgedOf row n fault d = cond (lengthFits (rowAt row) n) (unless fault (meaningOf (kindAt (kindNumbered row)) n d)) (broken 8)
 
 -- the answer for several pieces with the bytes d together, of which the first has its data at s

@@ -406,13 +406,16 @@ fn text_in(m: &[u8], set: [u64; 4], code: u8, w: Scanned) -> Extent
     if w.last + 2 != start {
         return Extent { start: 0, len: 0 };
     }
-    let row = known_row(set, code);
-    if kinds::kind_of(row) != kinds::TEXT {
+    if !ranges::is_text(code) {
+        return Extent { start: 0, len: 0 };
+    }
+    if !codeset::contains(set, code) {
         return Extent { start: 0, len: 0 };
     }
     let end = start + w.whole;
     let t = &m[start..end];
-    if kinds::fault_in(row, t) != 0 {
+    // The texts have one row, with the number of their kind.
+    if kinds::fault_in(kinds::TEXT, t) != 0 {
         return Extent { start: 0, len: 0 };
     }
     clip(start, kinds::text_len(t))

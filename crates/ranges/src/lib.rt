@@ -1,8 +1,9 @@
 // The row of a code in the table of kinds (document 01, The kinds, by code), decided from ranges of codes (document 02, request 04).
 ghost use mathlib.Core.Path.{_≡_};
-ghost use Prim.Native.Nat.{_<_, _≤_};
+ghost use Prim.Native.Nat.{_<_, _≤_, _%_};
+ghost use lib.Dec.{eqb};
 ghost use Rattle.ranges.specs.Rows.{rowNumber};
-ghost use Rattle.ranges.specs.Words.{rangeRow, GivesRowOf};
+ghost use Rattle.ranges.specs.Words.{rangeRow, GivesRowOf, inRanges};
 
 // No code from 77 on has a row.
 const LAST: u8 = 76;
@@ -23,20 +24,20 @@ fn below_37(c: u8) -> Ranges
         // 0; 1; 2; 3 to 11; 12; 13; 14 and 15; 16
         return Ranges {
             firsts: 0x100e_0d0c_0302_0100,
-            rows: 0x0111_0b11_0210_0100,
+            rows: 0x010a_060a_0209_0100,
         };
     }
     if c < 27 {
         // 17 and 18; 19 and 20; 21; 22; 23; 24; 25; 26
         return Ranges {
             firsts: 0x1a19_1817_1615_1311,
-            rows: 0x0d0e_0f07_0c04_0611,
+            rows: 0x2607_0805_1603_040a,
         };
     }
     // 27; 28; 29 to 31; 32; 33; 34; 35; 36
     Ranges {
         firsts: 0x2423_2221_201d_1c1b,
-        rows: 0x060f_0605_0106_0106,
+        rows: 0x0408_0413_0104_0104,
     }
 }
 
@@ -49,27 +50,27 @@ fn from_37(c: u8) -> Ranges
         // 37; 38; 39; 40; 41 and 42; 43; 44 and 45; 46
         return Ranges {
             firsts: 0x2e2c_2b29_2827_2625,
-            rows: 0x0802_1202_1106_0f07,
+            rows: 0x1502_0b02_0a04_0805,
         };
     }
     if c < 56 {
         // 47; 48 and 49; 50; 51; 52; 53; 54; 55
         return Ranges {
             firsts: 0x3736_3534_3332_302f,
-            rows: 0x1201_0a09_0f01_0212,
+            rows: 0x0b01_3525_0801_020b,
         };
     }
     if c < 66 {
         // 56; 57; 58 and 59; 60; 61; 62 and 63; 64; 65
         return Ranges {
             firsts: 0x4140_3e3d_3c3a_3938,
-            rows: 0x0211_0013_120f_0c11,
+            rows: 0x020a_001b_0b08_160a,
         };
     }
     // 66 and 67; 68; 69 to 76
     Ranges {
         firsts: 0x8080_8080_8045_4442,
-        rows: 0x0002_0311,
+        rows: 0x0000_0000_0002_120a,
     }
 }
 
@@ -91,10 +92,10 @@ fn row_in(firsts: u64, rows: u64, c: u8) -> u8
     let past = (c as u64 + 128) * 0x0101_0101_0101_0101 - firsts;
     let begun = past & 0x8080_8080_8080_8080;
     let above = u64::leading_zeros(begun) % 64 / 8;
-    ((rows >> (56 - above * 8)) % 32) as u8
+    ((rows >> (56 - above * 8)) % 64) as u8
 }
 
-// The number of the row of the code c, 0 for none.
+// The number of the row of the code c: that of its kind, and 16 for each row of that kind before it; 0 for none.
 pub fn row(c: u8) -> u8
     ensures { λ r. ⌜ r ≡ rowNumber c ⌝ }
 {
@@ -103,4 +104,25 @@ pub fn row(c: u8) -> u8
     }
     let r = ranges_with(c);
     row_in(r.firsts, r.rows, c)
+}
+
+// Whether the code c is of a text (kind 10), by its ranges alone: 12; 14 and 15; 17 and 18; 40; 56; 64; 66 and 67. A range has begun and not ended.
+pub fn is_text(c: u8) -> bool
+    ensures { λ r. ⌜ r ≡ eqb (rowNumber c % 16) 10 ⌝ }
+{
+    if LAST < c {
+        return false;
+    }
+    in_ranges(0x8042_4038_2811_0e0c, 0x8044_4139_2913_100d, c)
+}
+
+// Whether c is in one of the ranges that begin at the bytes of `firsts` and end before those of `ends`.
+fn in_ranges(firsts: u64, ends: u64, c: u8) -> bool
+    requires { ⌜ (c < 128) × ((firsts ≤ 9259542123273814144) × (ends ≤ 9259542123273814144)) ⌝ }
+    ensures { λ r. ⌜ r ≡ inRanges firsts ends c ⌝ }
+{
+    let places = (c as u64 + 128) * 0x0101_0101_0101_0101;
+    let begun = (places - firsts) & 0x8080_8080_8080_8080;
+    let ended = (places - ends) & 0x8080_8080_8080_8080;
+    begun != ended
 }

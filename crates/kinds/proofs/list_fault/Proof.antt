@@ -1,11 +1,13 @@
--- `kinds::list_fault` meets its contract, arm by arm: each `refl` is computed for the arm's rows, and the last `tt` for all numbers. Assumes nothing.
+-- `kinds::list_fault` meets its contract, arm by arm. Assumes nothing.
 use borrow.Author.Needs.{needs}
+use borrow.Author.Tests.{ne-eqb}
 use native.Mathlib.Omega.{arith}
-use mathlib.Core.Path.{refl}
+use Prim.Native.Nat.{_%_}
 use mir.Syntax.{Arms}
-use Rattle.options.specs.Kinds.{risingFrom, destinations, ascii, valueFault}
-use Rattle.kinds.proofs.Entries.{armsOf, keys}
-use Rattle.kinds.proofs.Rules.{values-at, lists-at, lists-else}
+use Rattle.options.specs.Kinds.{valueFault}
+use Rattle.kinds.specs.Numbers.{rowAt}
+use Rattle.kinds.proofs.Entries.{armsOf, unlisted}
+use Rattle.kinds.proofs.ByKind.{list-3, list-7, list-10, value-7, value-10, listless, no-list}
 use Rattle.kinds.proofs.list_fault.Statement.{statement}
 use Rattle.kinds.proofs.list_fault.Tie as tie
 use Rattle.kinds.proofs.list_fault.Lts as lts
@@ -20,6 +22,10 @@ destinations-fit-requires c κs = search needs
 or-nine-requires : tie.Need-or-nine-requires
 or-nine-requires c κs = search needs
 
+returns : tie.Need-returns
+unfolding rowAt valueFault
+returns c = rw (c .before .before .if1 .taken, ← c .before .destinations-fit .ensures) (c .or-nine .ensures)
+
 never-falling-requires : tie.Need-never-falling-requires
 never-falling-requires c κs = search needs
 
@@ -32,26 +38,25 @@ text-fits-requires c κs = search needs
 or-nine-requires-3 : tie.Need-or-nine-requires-3
 or-nine-requires-3 c κs = search needs
 
-returns : tie.Need-returns
-unfolding valueFault
-returns c =
-    let k = c .before .before .match .keys1 in
-    rw (lists-at (keys arms 0) _ _ refl k, values-at (keys arms 0) _ destinations refl k, ← c .before .destinations-fit .ensures) (c .or-nine .ensures)
-
 returns-2 : tie.Need-returns-2
-unfolding valueFault
-returns-2 c =
-    let k = c .before .before .match .keys2 in
-    rw (lists-at (keys arms 1) _ _ refl k, values-at (keys arms 1) _ (risingFrom 68) refl k, ← c .before .never-falling .ensures) (c .or-nine2 .ensures)
+returns-2 c = rw (list-3 _ (omega arith) (c .before .match .keys1), ne-eqb _ _ (c .if1 .left))
 
 returns-3 : tie.Need-returns-3
 unfolding valueFault
 returns-3 c =
-    let k = c .before .before .match .keys3 in
-    rw (lists-at (keys arms 2) _ _ refl k, values-at (keys arms 2) _ ascii refl k, ← c .before .text-fits .ensures) (c .or-nine3 .ensures)
+    let k = c .before .before .match .keys2 in
+    rw (list-7 _ (omega arith) k, value-7 _ (omega arith) k, ← c .before .never-falling .ensures) (c .or-nine2 .ensures)
 
 returns-4 : tie.Need-returns-4
-returns-4 c = rw (lists-else arms _ (omega arith) tt (c .match .rest))
+unfolding valueFault
+returns-4 c =
+    let k = c .before .before .match .keys3 in
+    rw (list-10 _ (omega arith) k, value-10 _ (omega arith) k, ← c .before .text-fits .ensures) (c .or-nine3 .ensures)
+
+returns-5 : tie.Need-returns-5
+returns-5 c =
+    let n = c .before .before .args .row in
+    rw (no-list n (omega arith) (unlisted listless arms (n % 16) tt (omega arith) (c .match .rest)))
 
 pub list-fault-spec : {M : Type 1} → statement M
 list-fault-spec =
@@ -59,11 +64,12 @@ list-fault-spec =
     (tie.spec
     destinations-fit-requires
     or-nine-requires
+    returns
     never-falling-requires
     or-nine-requires-2
     text-fits-requires
     or-nine-requires-3
-    returns
     returns-2
     returns-3
-    returns-4)
+    returns-4
+    returns-5)

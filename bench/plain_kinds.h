@@ -9,40 +9,38 @@
 enum { SNAME = 44, FILE_FIELD = 108, COOKIE = 236, OPTIONS = 240, LONGEST = 1472 };
 enum { PAD = 0, OVERLOAD = 52, END = 255 };
 
-/* Request 04: the kinds by ranges of codes, first and last, in rising order. */
-static const struct range {
-    uint8_t first, last, kind;
-} RANGES[] = {
-    {1, 1, PLAIN_ADDRESS}, {2, 2, PLAIN_SIGNED32}, {3, 11, PLAIN_ADDRESSES}, {12, 12, PLAIN_TEXT},
-    {13, 13, PLAIN_NUMBER16}, {14, 15, PLAIN_TEXT}, {16, 16, PLAIN_ADDRESS}, {17, 18, PLAIN_TEXT},
-    {19, 20, PLAIN_FLAG}, {21, 21, PLAIN_PAIRS}, {22, 22, PLAIN_NUMBER16}, {23, 23, PLAIN_OCTET},
-    {24, 24, PLAIN_UNSIGNED32}, {25, 25, PLAIN_NUMBERS16}, {26, 26, PLAIN_NUMBER16},
-    {27, 27, PLAIN_FLAG}, {28, 28, PLAIN_ADDRESS}, {29, 31, PLAIN_FLAG}, {32, 32, PLAIN_ADDRESS},
-    {33, 33, PLAIN_PAIRS}, {34, 34, PLAIN_FLAG}, {35, 35, PLAIN_UNSIGNED32}, {36, 36, PLAIN_FLAG},
-    {37, 37, PLAIN_OCTET}, {38, 38, PLAIN_UNSIGNED32}, {39, 39, PLAIN_FLAG}, {40, 40, PLAIN_TEXT},
-    {41, 42, PLAIN_ADDRESSES}, {43, 43, PLAIN_OPAQUE}, {44, 45, PLAIN_ADDRESSES},
-    {46, 46, PLAIN_OCTET}, {47, 47, PLAIN_OPAQUE}, {48, 49, PLAIN_ADDRESSES},
-    {50, 50, PLAIN_ADDRESS}, {51, 51, PLAIN_UNSIGNED32}, {52, 53, PLAIN_OCTET},
-    {54, 54, PLAIN_ADDRESS}, {55, 55, PLAIN_OPAQUE}, {56, 56, PLAIN_TEXT}, {57, 57, PLAIN_NUMBER16},
-    {58, 59, PLAIN_UNSIGNED32}, {60, 61, PLAIN_OPAQUE}, {64, 64, PLAIN_TEXT},
-    {65, 65, PLAIN_ADDRESSES}, {66, 67, PLAIN_TEXT}, {68, 76, PLAIN_ADDRESSES},
+/* Request 04: the kinds by ranges of codes, in rising order, those without a row too. A range begins behind the one before; the last is there to fill the
+   64 rows. */
+static const uint8_t RANGE_LAST[64] = {
+    0, 1, 2, 11, 12, 13, 15, 16, 18, 20, 21, 22, 23, 24, 25, 26, 27, 28, 31, 32, 33, 34, 35, 36, 37,
+    38, 39, 40, 42, 43, 45, 46, 47, 49, 50, 51, 53, 54, 55, 56, 57, 59, 61, 63, 64, 65, 67, 76, 255,
+    255, 255, 255, 255, 255, 255, 255, 255, 255, 255, 255, 255, 255, 255, 255,
+};
+static const uint8_t RANGE_KIND[64] = {
+    PLAIN_NO_ROW, PLAIN_ADDRESS, PLAIN_SIGNED32, PLAIN_ADDRESSES, PLAIN_TEXT, PLAIN_NUMBER16,
+    PLAIN_TEXT, PLAIN_ADDRESS, PLAIN_TEXT, PLAIN_FLAG, PLAIN_PAIRS, PLAIN_NUMBER16, PLAIN_OCTET,
+    PLAIN_UNSIGNED32, PLAIN_NUMBERS16, PLAIN_NUMBER16, PLAIN_FLAG, PLAIN_ADDRESS, PLAIN_FLAG,
+    PLAIN_ADDRESS, PLAIN_PAIRS, PLAIN_FLAG, PLAIN_UNSIGNED32, PLAIN_FLAG, PLAIN_OCTET,
+    PLAIN_UNSIGNED32, PLAIN_FLAG, PLAIN_TEXT, PLAIN_ADDRESSES, PLAIN_OPAQUE, PLAIN_ADDRESSES,
+    PLAIN_OCTET, PLAIN_OPAQUE, PLAIN_ADDRESSES, PLAIN_ADDRESS, PLAIN_UNSIGNED32, PLAIN_OCTET,
+    PLAIN_ADDRESS, PLAIN_OPAQUE, PLAIN_TEXT, PLAIN_NUMBER16, PLAIN_UNSIGNED32, PLAIN_OPAQUE,
+    PLAIN_NO_ROW, PLAIN_TEXT, PLAIN_ADDRESSES, PLAIN_TEXT, PLAIN_ADDRESSES, PLAIN_NO_ROW,
+    PLAIN_NO_ROW, PLAIN_NO_ROW, PLAIN_NO_ROW, PLAIN_NO_ROW, PLAIN_NO_ROW, PLAIN_NO_ROW,
+    PLAIN_NO_ROW, PLAIN_NO_ROW, PLAIN_NO_ROW, PLAIN_NO_ROW, PLAIN_NO_ROW, PLAIN_NO_ROW,
+    PLAIN_NO_ROW, PLAIN_NO_ROW, PLAIN_NO_ROW,
 };
 
-enum { RANGE_COUNT = sizeof RANGES / sizeof *RANGES };
-_Static_assert(RANGE_COUNT <= 64, "no array of more than 64 rows");
-
-/* The first range that doesn't end before the code, by halves. */
+/* The first range that doesn't end before the code: by halves, six times, without a branch. */
 static uint32_t kind_of(uint8_t c)
 {
-    size_t low = 0, high = RANGE_COUNT;
-    while (low < high) {
-        size_t middle = (low + high) / 2;
-        if (RANGES[middle].last < c)
-            low = middle + 1;
-        else
-            high = middle;
-    }
-    return low < RANGE_COUNT && RANGES[low].first <= c ? RANGES[low].kind : PLAIN_NO_ROW;
+    const uint8_t *r = RANGE_LAST;
+    r += (r[31] < c) * 32;
+    r += (r[15] < c) * 16;
+    r += (r[7] < c) * 8;
+    r += (r[3] < c) * 4;
+    r += (r[1] < c) * 2;
+    r += r[0] < c;
+    return RANGE_KIND[r - RANGE_LAST];
 }
 
 static uint32_t number16(const uint8_t *d)

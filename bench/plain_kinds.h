@@ -9,36 +9,38 @@
 enum { SNAME = 44, FILE_FIELD = 108, COOKIE = 236, OPTIONS = 240, LONGEST = 1472 };
 enum { PAD = 0, OVERLOAD = 52, END = 255 };
 
+/* Request 04: the kinds by ranges of codes, in rising order, those without a row too. A range begins behind the one before; the last is there to fill the
+   64 rows. */
+static const uint8_t RANGE_LAST[64] = {
+    0, 1, 2, 11, 12, 13, 15, 16, 18, 20, 21, 22, 23, 24, 25, 26, 27, 28, 31, 32, 33, 34, 35, 36, 37,
+    38, 39, 40, 42, 43, 45, 46, 47, 49, 50, 51, 53, 54, 55, 56, 57, 59, 61, 63, 64, 65, 67, 76, 255,
+    255, 255, 255, 255, 255, 255, 255, 255, 255, 255, 255, 255, 255, 255, 255,
+};
+static const uint8_t RANGE_KIND[64] = {
+    PLAIN_NO_ROW, PLAIN_ADDRESS, PLAIN_SIGNED32, PLAIN_ADDRESSES, PLAIN_TEXT, PLAIN_NUMBER16,
+    PLAIN_TEXT, PLAIN_ADDRESS, PLAIN_TEXT, PLAIN_FLAG, PLAIN_PAIRS, PLAIN_NUMBER16, PLAIN_OCTET,
+    PLAIN_UNSIGNED32, PLAIN_NUMBERS16, PLAIN_NUMBER16, PLAIN_FLAG, PLAIN_ADDRESS, PLAIN_FLAG,
+    PLAIN_ADDRESS, PLAIN_PAIRS, PLAIN_FLAG, PLAIN_UNSIGNED32, PLAIN_FLAG, PLAIN_OCTET,
+    PLAIN_UNSIGNED32, PLAIN_FLAG, PLAIN_TEXT, PLAIN_ADDRESSES, PLAIN_OPAQUE, PLAIN_ADDRESSES,
+    PLAIN_OCTET, PLAIN_OPAQUE, PLAIN_ADDRESSES, PLAIN_ADDRESS, PLAIN_UNSIGNED32, PLAIN_OCTET,
+    PLAIN_ADDRESS, PLAIN_OPAQUE, PLAIN_TEXT, PLAIN_NUMBER16, PLAIN_UNSIGNED32, PLAIN_OPAQUE,
+    PLAIN_NO_ROW, PLAIN_TEXT, PLAIN_ADDRESSES, PLAIN_TEXT, PLAIN_ADDRESSES, PLAIN_NO_ROW,
+    PLAIN_NO_ROW, PLAIN_NO_ROW, PLAIN_NO_ROW, PLAIN_NO_ROW, PLAIN_NO_ROW, PLAIN_NO_ROW,
+    PLAIN_NO_ROW, PLAIN_NO_ROW, PLAIN_NO_ROW, PLAIN_NO_ROW, PLAIN_NO_ROW, PLAIN_NO_ROW,
+    PLAIN_NO_ROW, PLAIN_NO_ROW, PLAIN_NO_ROW,
+};
+
+/* The first range that doesn't end before the code: by halves, six times, without a branch. */
 static uint32_t kind_of(uint8_t c)
 {
-    switch (c) {
-    case 1: case 16: case 28: case 32: case 50: case 54:
-        return PLAIN_ADDRESS;
-    case 3: case 4: case 5: case 6: case 7: case 8: case 9: case 10: case 11:
-    case 41: case 42: case 44: case 45: case 48: case 49: case 65: case 68:
-    case 69: case 70: case 71: case 72: case 73: case 74: case 75: case 76:
-        return PLAIN_ADDRESSES;
-    case 21: case 33:
-        return PLAIN_PAIRS;
-    case 19: case 20: case 27: case 29: case 30: case 31: case 34: case 36: case 39:
-        return PLAIN_FLAG;
-    case 23: case 37: case 46: case 52: case 53:
-        return PLAIN_OCTET;
-    case 13: case 22: case 26: case 57:
-        return PLAIN_NUMBER16;
-    case 25:
-        return PLAIN_NUMBERS16;
-    case 24: case 35: case 38: case 51: case 58: case 59:
-        return PLAIN_UNSIGNED32;
-    case 2:
-        return PLAIN_SIGNED32;
-    case 12: case 14: case 15: case 17: case 18: case 40: case 56: case 64: case 66: case 67:
-        return PLAIN_TEXT;
-    case 43: case 47: case 55: case 60: case 61:
-        return PLAIN_OPAQUE;
-    default:
-        return PLAIN_NO_ROW;
-    }
+    const uint8_t *r = RANGE_LAST;
+    r += (r[31] < c) * 32;
+    r += (r[15] < c) * 16;
+    r += (r[7] < c) * 8;
+    r += (r[3] < c) * 4;
+    r += (r[1] < c) * 2;
+    r += r[0] < c;
+    return RANGE_KIND[r - RANGE_LAST];
 }
 
 static uint32_t number16(const uint8_t *d)

@@ -9,7 +9,8 @@ use lib.IntN.{ℤ, pos}
 use Rattle.options.specs.Message.{Field, options, file, sname, start}
 use Rattle.options.specs.Kinds.{Kind, broken, number, part}
 use Rattle.options.specs.Answers as asked
-use Rattle.kinds.specs.Numbers.{numberOf, kindFrom}
+use Rattle.ranges.specs.Rows.{numberOf}
+use Rattle.kinds.specs.Numbers.{kindFrom}
 use Rattle.present.specs.Marked.{numberOf as refusalOf, placeOf, verdictFrom}
 use Rattle.dhcpopt_reader.specs.declared.PlainAnswer.{PlainAnswer}
 use Rattle.dhcpopt_reader.specs.declared.PlainContent.{PlainContent}

@@ -1,4 +1,6 @@
 -- Laws that the proofs of the functions share.
-pub mod Entries
+mod ByKind
+mod Entries
 pub mod Numbering
+mod Rules
 pub mod Walks

@@ -1,16 +1,19 @@
 -- Kinds and their numbers. Assumes nothing.
 use mathlib.Core.Path.{_≡_, refl, sym, ap, _∙_}
 use mathlib.Core.Bool.{Bool, true, false, cond}
-use mathlib.Core.List.{List}
+use mathlib.Core.List.{List, []}
 use mathlib.Core.Option.{Option, none, some}
-use Prim.Native.Nat.{ℕ, zero, suc, _+_, _≤_}
+use Prim.Native.Nat.{ℕ, zero, suc, _+_, _%_, _≤_}
 use native.Mathlib.Omega.{arith}
 use borrow.Author.Tests.{ne-eqb}
 use lib.Dec.{eqb}
 use lib.ListN.{length}
 use Rattle.options.specs.SheetWalk.{isBroken}
-use Rattle.options.specs.Kinds.{Kind, address, addresses, pairs, flag, octet, number16, numbers16, unsigned32, signed32, text, opaque, Value, broken, number, part, kindOf, lengthFits, valueFits, meaning, judged, judgedBy, kinds}
-use Rattle.kinds.specs.Numbers.{numberOf, kindNumber, kindAt, rowFrom, kindFrom, NumbersKeepTheKind, numberOfFault, faultOf, faultAs, isList, listFits, numberFits, FaultsKeepTheNumber}
+use Rattle.options.specs.Kinds.{Kind, address, addresses, pairs, flag, octet, number16, numbers16, unsigned32, signed32, text, opaque, Value, broken, number, part, Row, rows, rowOf, kindBy, kindOf, fault, unless, meaning, judged, judgedBy, kinds}
+use Rattle.ranges.specs.Rows.{numberOf, rowFrom, rowNumber}
+use Rattle.ranges.proofs.Kept.{numbers-keep-the-row, no-number, from-kind}
+use Rattle.kinds.proofs.Rules.{opaque-else}
+use Rattle.kinds.specs.Numbers.{kindNumber, kindAt, kindFrom, NumbersKeepTheKind, numberOfFault, faultOf, FaultsKeepTheNumber, orElse, rowAt, kindNumbered, faultIn, faultNumbered, lengthFits, valueFaultIn}
 
 pub named : (k : Kind) → kindAt (numberOf k) ≡ k
 named address = refl
@@ -39,10 +42,6 @@ pub row : (o : Option Kind) (n : ℕ) → n ≡ kindNumber o → (n ≡ 0 → �
 row none n e z = absurd (z e)
 row (some k) n e z = rw (e, named k)
 
-pub row-at : (n : ℕ) → (n ≡ 0 → ⊥) → rowFrom n ≡ some (kindAt n)
-row-at zero z = absurd (z refl)
-row-at (suc n) z = refl
-
 pub kind-back : (k : Kind) → kindFrom (numberOf k) ≡ some k
 kind-back address = refl
 kind-back addresses = refl
@@ -59,14 +58,6 @@ kind-back opaque = refl
 pub numbers-keep-the-kind : NumbersKeepTheKind
 numbers-keep-the-kind none = refl
 numbers-keep-the-kind (some k) = kind-back k
-
-pub row-back : (o : Option Kind) → rowFrom (kindNumber o) ≡ o
-row-back none = refl
-row-back (some k) = go (numberOf k) refl
-  where
-    go : (n : ℕ) → numberOf k ≡ n → rowFrom n ≡ some k
-    go zero e = absurd (numbered k e)
-    go (suc n) e = ap some (ap kindAt (sym e) ∙ named k)
 
 -- n is none of the k numbers from a on, as the last arm of a `match` has it
 abbrev pub Outside : ℕ → ℕ → ℕ → Type 0
@@ -87,45 +78,6 @@ else-opaque n h =
       ne-eqb n 9 (h .0 .1),
       ne-eqb n 10 (h .1),
     )
-
--- the rule of value in its two parts, as the last arm of each `match` has it
-free : (c : ℕ) (d : List ℕ) (a b e f g h i : Bool)
-    → let k = cond a address (cond b addresses (cond e pairs (cond f numbers16 (cond g unsigned32 (cond h signed32 (cond i text opaque)))))) in
-    numberFits k c d ≡ true
-unfolding valueFits
-free c d true b e f g h i = refl
-free c d false true e f g h i = refl
-free c d false false true f g h i = refl
-free c d false false false true g h i = refl
-free c d false false false false true h i = refl
-free c d false false false false false true i = refl
-free c d false false false false false false true = refl
-free c d false false false false false false false = refl
-
-pub else-number : (n c : ℕ) (d : List ℕ) → Outside 4 3 n → numberFits (kindAt n) c d ≡ true
-else-number n c d h =
-    rw (ne-eqb n 4 (h .0 .0 .1), ne-eqb n 5 (h .0 .1), ne-eqb n 6 (h .1)) (free c d (eqb n 1) (eqb n 2) (eqb n 3) (eqb n 7) (eqb n 8) (eqb n 9) (eqb n 10))
-
--- neither pairs nor numbers of 16 bits nor text
-module _ (n c : ℕ) (d : List ℕ) (p : n ≡ 3 → ⊥) (q : n ≡ 7 → ⊥) (t : n ≡ 10 → ⊥) where
-  abbrev rest : (a b e f g h i : Bool) → Kind
-  rest a b e f g h i = cond a address (cond b addresses (cond e flag (cond f octet (cond g number16 (cond h unsigned32 (cond i signed32 opaque))))))
-
-  pub else-unlisted : isList (kindAt n) ≡ false
-  else-unlisted = rw (ne-eqb n 3 p, ne-eqb n 7 q, ne-eqb n 10 t) (go (eqb n 1) (eqb n 2) (eqb n 4) (eqb n 5) (eqb n 6) (eqb n 8) (eqb n 9))
-    where
-      go : (a b e f g h i : Bool) → isList (rest a b e f g h i) ≡ false
-      go true b e f g h i = refl
-      go false true e f g h i = refl
-      go false false true f g h i = refl
-      go false false false true g h i = refl
-      go false false false false true h i = refl
-      go false false false false false true i = refl
-      go false false false false false false true = refl
-      go false false false false false false false = refl
-
-  pub else-list : listFits (kindAt n) c d ≡ true
-  else-list = rw else-unlisted
 
 -- what a kind makes of data that keeps its rules is not broken, and so no fault
 pub unbroken : (k : Kind) (d : List ℕ) → isBroken (meaning k d) ≡ false
@@ -161,36 +113,109 @@ pub fault-broken : (c : ℕ) (d : List ℕ) (n : ℕ) → n ≡ faultOf c d → 
 unfolding faultOf
 fault-broken c d n e z = broken-by (kinds .value c d) n e z
 
-kept-by : (a b : Bool) (v : Value) → numberOfFault (cond a (cond b v (broken 9)) (broken 8)) ≡ 0 → cond a (cond b v (broken 9)) (broken 8) ≡ v
-kept-by true true v e = refl
-kept-by true false v e = absurd (omega arith)
-kept-by false b v e = absurd (omega arith)
+kept-by : (n : ℕ) (v : Value) → numberOfFault (unless n v) ≡ 0 → unless n v ≡ v
+kept-by zero v e = refl
+kept-by (suc n) v e = absurd (omega arith)
 
-pub fault-as-broken : (k c : ℕ) (d : List ℕ) (n : ℕ) → (k ≡ 0 → ⊥) → n ≡ faultAs k c d → (n ≡ 0 → ⊥) → judged (kindAt k) c d ≡ broken n
-unfolding faultAs
-fault-as-broken k c d n h e z = broken-by (judged (kindAt k) c d) n (rw (row-at k h) at e) z
-
-pub fault-as-kept : (k c : ℕ) (d : List ℕ) → (k ≡ 0 → ⊥) → faultAs k c d ≡ 0 → judged (kindAt k) c d ≡ meaning (kindAt k) d
-unfolding faultAs judged
-fault-as-kept k c d h e = kept-by (lengthFits (kindAt k) c (length d)) (valueFits (kindAt k) c d) (meaning (kindAt k) d) (rw (row-at k h) at e)
+row-kind : (o : Option Row) (k : Kind) → kindBy o ≡ some k → (r : Row) × ((o ≡ some r) × (r .kind ≡ k))
+row-kind none k e = let z : _≡_ {A = ℕ} 0 1 = cc in absurd (omega arith)
+row-kind (some r) k e = (r, (refl, cc))
 
 pub fault-kept : (c : ℕ) (k : Kind) (d : List ℕ) → kindOf c ≡ some k → faultOf c d ≡ 0 → kinds .value c d ≡ meaning k d
 unfolding faultOf judged
-fault-kept c k d o e = rw o (kept-by (lengthFits k c (length d)) (valueFits k c d) (meaning k d) (rw o at e))
+fault-kept c k d o e =
+    let r = row-kind (rowOf c) k o in
+    rw (r .1 .0, r .1 .1) (kept-by (fault (r .0) d) (meaning k d) (rw (r .1 .0, r .1 .1) at e))
 
--- data are broken by 8 or 9
-breaks : (a b : Bool) (v : Value) (n : ℕ) → isBroken v ≡ false → cond a (cond b v (broken 9)) (broken 8) ≡ broken n → 1 ≤ n
-breaks true true (broken m) n u e = absurd (let z : _≡_ {A = ℕ} 0 1 = cc in omega arith)
-breaks true true (number k x) n u e = absurd (let z : _≡_ {A = ℕ} 0 1 = cc in omega arith)
-breaks true true (part k x) n u e = absurd (let z : _≡_ {A = ℕ} 0 1 = cc in omega arith)
-breaks true false v n u e = let z : 9 ≡ n = cc in omega arith
-breaks false b v n u e = let z : 8 ≡ n = cc in omega arith
-
-broken-number : (o : Option Kind) (c : ℕ) (d : List ℕ) (n : ℕ) → judgedBy o c d ≡ broken n → 1 ≤ n
+-- data are broken by no number but a fault's
+broken-number : (o : Option Row) (d : List ℕ) (n : ℕ) → judgedBy o d ≡ broken n → 1 ≤ n
 unfolding judged
-broken-number none c d n e = absurd (let z : _≡_ {A = ℕ} 0 1 = cc in omega arith)
-broken-number (some k) c d n e = breaks (lengthFits k c (length d)) (valueFits k c d) (meaning k d) n (unbroken k d) e
+broken-number none d n e = absurd (let z : _≡_ {A = ℕ} 0 1 = cc in omega arith)
+broken-number (some r) d n e = breaks (fault r d) (meaning (r .kind) d) (unbroken (r .kind) d) e
+  where
+    breaks : (f : ℕ) (v : Value) → isBroken v ≡ false → unless f v ≡ broken n → 1 ≤ n
+    breaks zero (broken m) u q = absurd (let z : _≡_ {A = ℕ} 0 1 = cc in omega arith)
+    breaks zero (number k x) u q = absurd (let z : _≡_ {A = ℕ} 0 1 = cc in omega arith)
+    breaks zero (part k x) u q = absurd (let z : _≡_ {A = ℕ} 0 1 = cc in omega arith)
+    breaks (suc f) v u q = let z : suc f ≡ n = cc in omega arith
 
 pub faults-keep-the-number : FaultsKeepTheNumber
 unfolding faultOf
-faults-keep-the-number c d n = (λ e. (broken-number (kindOf c) c d n e, ap numberOfFault e), λ h. fault-broken c d n (sym (h .1)) (λ z. omega (arith, h .0)))
+faults-keep-the-number c d n = (λ e. (broken-number (rowOf c) d n e, ap numberOfFault e), λ h. fault-broken c d n (sym (h .1)) (λ z. omega (arith, h .0)))
+
+-- ---- The number of a code's row, and the row with a number
+
+at-row : (n : ℕ) (r : Row) → rowFrom [] rows n ≡ some r → rowAt n ≡ some r
+unfolding rowAt
+at-row n r q = rw q
+
+pub row-zero : rowAt 0 ≡ none
+unfolding rowAt
+row-zero = refl
+
+pub row-of : (c : ℕ) → rowAt (rowNumber c) ≡ rowOf c
+row-of c = go (rowOf c) refl
+  where
+    found : (r : Row) → rowFrom [] rows (rowNumber c) ≡ some r → rowAt (rowNumber c) ≡ some r
+    found r q = at-row (rowNumber c) r q
+
+    go : (o : Option Row) → rowOf c ≡ o → rowAt (rowNumber c) ≡ o
+    go none e = ap rowAt (no-number c e) ∙ row-zero
+    go (some r) e = found r (numbers-keep-the-row c ∙ e)
+
+-- the number of a row's kind
+pub kind-of-row : (n : ℕ) (r : Row) → rowAt n ≡ some r → n % 16 ≡ numberOf (r .kind)
+unfolding rowAt
+kind-of-row n r e = go (rowFrom [] rows n) refl e
+  where
+    go : (o : Option Row) → rowFrom [] rows n ≡ o → orElse o (rowFrom [] rows (n % 16)) ≡ some r → n % 16 ≡ numberOf (r .kind)
+    go none q z = omega (arith, from-kind [] rows (n % 16) r z)
+    go (some x) q z = from-kind [] rows n r (q ∙ z)
+
+pub no-kind : (n : ℕ) → rowAt n ≡ none → kindAt (n % 16) ≡ opaque
+unfolding rowAt
+no-kind n e = go (rowFrom [] rows n) e
+  where
+    as-opaque : (k : Kind) → numberOf k ≡ 11 → k ≡ opaque
+    as-opaque k q = sym (named k) ∙ ap kindAt q
+
+    go : (o : Option Row) → orElse o (rowFrom [] rows (n % 16)) ≡ none → kindAt (n % 16) ≡ opaque
+    go none z = as-opaque (kindAt (n % 16)) (opaque-else (n % 16) (omega arith) z)
+    go (some x) z = absurd (let y : _≡_ {A = ℕ} 0 1 = cc in omega arith)
+
+pub kind-numbered : (c : ℕ) → kindNumbered (rowNumber c) ≡ kindNumber (kindOf c)
+kind-numbered c = go (rowOf c) refl
+  where
+    go : (o : Option Row) → rowOf c ≡ o → kindNumbered (rowNumber c) ≡ kindNumber (kindBy o)
+    go none e = rw (no-number c e)
+    go (some r) e = kind-of-row (rowNumber c) r (row-of c ∙ e)
+
+-- a row, or none, breaks data as its verdict says
+fault-in : (o : Option Row) (d : List ℕ) → faultIn o d ≡ numberOfFault (judgedBy o d)
+unfolding judged
+fault-in none d = refl
+fault-in (some r) d = by (fault r d)
+  where
+    by : (n : ℕ) → n ≡ numberOfFault (unless n (meaning (r .kind) d))
+    by zero = sym (meant (r .kind) d)
+    by (suc n) = refl
+
+pub fault-numbered : (c : ℕ) (d : List ℕ) → faultNumbered (rowNumber c) d ≡ faultOf c d
+unfolding faultOf faultNumbered
+fault-numbered c d = ap (λ (o : Option Row). faultIn o d) (row-of c) ∙ fault-in (rowOf c) d
+
+-- ---- The rules of a row, for callers
+
+pub fault-rules : (o : Option Row) (d : List ℕ) → cond (lengthFits o (length d)) (valueFaultIn o d) 8 ≡ faultIn o d
+unfolding fault
+fault-rules none d = refl
+fault-rules (some r) d = refl
+
+-- the verdict, by the fault and by the kind
+pub judged-as : (n : ℕ) (d : List ℕ) → judgedBy (rowAt n) d ≡ unless (faultNumbered n d) (meaning (kindAt (kindNumbered n)) d)
+unfolding faultNumbered judged meaning
+judged-as n d = go (rowAt n) refl
+  where
+    go : (o : Option Row) → rowAt n ≡ o → judgedBy o d ≡ unless (faultIn o d) (meaning (kindAt (n % 16)) d)
+    go none e = rw (no-kind n e)
+    go (some r) e = rw (kind-of-row n r e, named (r .kind))

@@ -8,7 +8,7 @@ use native.Mathlib.Omega.{arith}
 use borrow.Author.Tests.{le-leb, lt-leb, eq-eqb, ne-eqb}
 use lib.ListN.{length, getD, take, drop, length-take, length-drop, drop-of-length-le}
 use lib.Seq.{take-suc, length-take-le, getD-take, getD-drop, drop-drop, drop-cons}
-use Rattle.options.specs.Kinds.{trimmed, longer, textByte, allText, pair16, word32, first16, first32, numbersOf, addressesOf, rising, noZeroFirst}
+use Rattle.options.specs.Kinds.{trimmed, longer, allText, fromTo, pair16, word32, first16, first32, numbersOf, addressesOf, rising, noZeroFirst}
 
 -- ---- The end of a text
 
@@ -68,11 +68,11 @@ module _ (t : List ℕ) (n i : ℕ) where
     head : drop i (take n t) ≡ getD t i 0 ∷ drop (suc i) (take n t)
     head = drop-cons (take n t) i 0 (omega (arith, length-take-le n t l)) ∙ rw (getD-take n t i 0 h)
 
-    pub text-stop : textByte (getD t i 0) ≡ false → allText (drop i (take n t)) ≡ false
+    pub text-stop : fromTo 1 127 (getD t i 0) ≡ false → allText (drop i (take n t)) ≡ false
     unfolding allText
     text-stop e = rw (head, e)
 
-    pub text-next : textByte (getD t i 0) ≡ true → allText (drop i (take n t)) ≡ allText (drop (i + 1) (take n t))
+    pub text-next : fromTo 1 127 (getD t i 0) ≡ true → allText (drop i (take n t)) ≡ allText (drop (i + 1) (take n t))
     unfolding allText
     text-next e = let z : suc i ≡ i + 1 = omega arith in rw (head, e, ← z)
 

@@ -1,2 +1,3 @@
 -- What the code of the kinds is held to, beside the definitions of crate options.
 pub mod Numbers
+pub mod Parts

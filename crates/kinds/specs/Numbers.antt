@@ -1,26 +1,16 @@
 -- THE KINDS AS NUMBERS: 1 to 11 in the order of document 01's table, 0 for a code without a row; and the number of a fault, 8 or 9, or 0 for none.
 -- Assumes nothing.
 use mathlib.Core.Path.{_≡_}
-use mathlib.Core.List.{List}
+use mathlib.Core.List.{List, []}
 use mathlib.Core.Bool.{Bool, true, false, cond}
 use mathlib.Core.Logic.{_↔_}
 use mathlib.Core.Option.{Option, none, some}
-use Prim.Native.Nat.{ℕ, zero, suc, _≤_}
+use Prim.Native.Nat.{ℕ, _%_, _≤_}
 use lib.Dec.{eqb}
-use Rattle.options.specs.Kinds.{Kind, address, addresses, pairs, flag, octet, number16, numbers16, unsigned32, signed32, text, opaque, Value, broken, number, part, valueFits, judgedBy, kinds}
-
-abbrev pub numberOf : Kind → ℕ
-numberOf address = 1
-numberOf addresses = 2
-numberOf pairs = 3
-numberOf flag = 4
-numberOf octet = 5
-numberOf number16 = 6
-numberOf numbers16 = 7
-numberOf unsigned32 = 8
-numberOf signed32 = 9
-numberOf text = 10
-numberOf opaque = 11
+use Rattle.options.specs.Reading.{either}
+use Rattle.options.specs.Kinds.{Kind, address, addresses, pairs, flag, octet, number16, numbers16, unsigned32, signed32, text, opaque, Lengths, isLength, Values, any, between, oneOf, atLeast, risingFrom, destinations, ascii, valueFault, Row, rows, kindBy, fault, Value, broken, number, part, kinds}
+use Rattle.options.specs.Answers.{isText}
+use Rattle.ranges.specs.Rows.{numberOf, rowFrom}
 
 abbrev pub kindNumber : Option Kind → ℕ
 kindNumber none = 0
@@ -40,12 +30,7 @@ kindAt n =
     (cond (eqb n 9) signed32
     (cond (eqb n 10) text opaque)))))))))
 
--- the same with none for 0
-abbrev pub rowFrom : ℕ → Option Kind
-rowFrom zero = none
-rowFrom (suc n) = some (kindAt (suc n))
-
--- the row that a number stands for: none for 0, and for a number that no kind has
+-- the kind that a number stands for: none for 0, and for a number that no kind has
 abbrev pub kindFrom : ℕ → Option Kind
 kindFrom n =
     cond (eqb n 1) (some address)
@@ -73,30 +58,73 @@ numberOfFault (part k n) = 0
 unfoldable pub faultOf : ℕ → List ℕ → ℕ
 faultOf c d = numberOfFault (kinds .value c d)
 
--- the same by the number of the code's kind
-unfoldable pub faultAs : ℕ → ℕ → List ℕ → ℕ
-faultAs k c d = numberOfFault (judgedBy (rowFrom k) c d)
+-- ---- By the number of a row
 
--- the kinds of which every data byte is looked at, by the rule of value or for the answer; of the others no more than the first four
-abbrev pub isList : Kind → Bool
-isList address = false
-isList addresses = false
-isList pairs = true
-isList flag = false
-isList octet = false
-isList number16 = false
-isList numbers16 = true
-isList unsigned32 = false
-isList signed32 = false
-isList text = true
-isList opaque = false
+-- the row with a number; a number that no row has counts as the first row of its kind, where it has a kind
+abbrev pub orElse : Option Row → Option Row → Option Row
+orElse (some r) o = some r
+orElse none o = o
 
--- the rule of value in two parts: that of these kinds, and that of the others
-abbrev pub listFits : Kind → ℕ → List ℕ → Bool
-listFits k c d = cond (isList k) (valueFits k c d) true
+unfoldable pub rowAt : ℕ → Option Row
+rowAt n = orElse (rowFrom [] rows n) (rowFrom [] rows (n % 16))
 
-abbrev pub numberFits : Kind → ℕ → List ℕ → Bool
-numberFits k c d = cond (isList k) true (valueFits k c d)
+-- its kind as a number, and how the data d breaks it; no row is broken by nothing
+abbrev pub kindNumbered : ℕ → ℕ
+kindNumbered n = n % 16
+
+abbrev pub faultIn : Option Row → List ℕ → ℕ
+faultIn none d = 0
+faultIn (some r) d = fault r d
+
+unfoldable pub faultNumbered : ℕ → List ℕ → ℕ
+unfolding rowAt
+faultNumbered n d = faultIn (rowAt n) d
+
+-- the rule of length, and the rule of value
+abbrev pub lengthsOf : Option Row → Option Lengths
+lengthsOf none = none
+lengthsOf (some r) = some (r .lengths)
+
+abbrev pub keepsLength : Option Lengths → ℕ → Bool
+keepsLength none n = true
+keepsLength (some l) n = isLength l n
+
+abbrev pub lengthFits : Option Row → ℕ → Bool
+lengthFits o n = keepsLength (lengthsOf o) n
+
+abbrev pub valuesOf : Option Row → Option Values
+valuesOf none = none
+valuesOf (some r) = some (r .values)
+
+abbrev pub breaksValue : Option Values → List ℕ → ℕ
+breaksValue none d = 0
+breaksValue (some v) d = valueFault v d
+
+abbrev pub valueFaultIn : Option Row → List ℕ → ℕ
+valueFaultIn o d = breaksValue (valuesOf o) d
+
+-- the rules of value that look at every data byte; of the others no more than the first two are looked at
+abbrev pub ofEach : Values → Bool
+ofEach any = false
+ofEach (between least most) = false
+ofEach (oneOf vs) = false
+ofEach (atLeast least) = false
+ofEach (risingFrom least) = true
+ofEach destinations = true
+ofEach ascii = true
+
+-- the rows by which every data byte is looked at: by their rule of value, or for the meaning, where a text ends; for the meaning of another kind no more
+-- than the first four are looked at
+abbrev pub isList : Option Row → Bool
+isList none = false
+isList (some r) = either (ofEach (r .values)) (isText (r .kind))
+
+-- the rule of value in two parts: that of these rows, and that of the others
+abbrev pub listFault : Option Row → List ℕ → ℕ
+listFault o d = cond (isList o) (valueFaultIn o d) 0
+
+abbrev pub numberFault : Option Row → List ℕ → ℕ
+numberFault o d = cond (isList o) 0 (valueFaultIn o d)
 
 -- a fault's number tells how the data break the row; 0 tells that they don't
 abbrev pub FaultsKeepTheNumber : Type 0

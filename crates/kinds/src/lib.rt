@@ -1,11 +1,11 @@
 // The kinds of options (document 01, The kinds, by code): the kind of a code, the rules of length and of value.
 ghost use mathlib.Core.Path.{_≡_};
 ghost use mathlib.Core.List.{[], _∷_};
-ghost use Prim.Native.Nat.{_<_};
-ghost use lib.Dec.{leb, eqb};
+ghost use Prim.Native.Nat.{_<_, _%_};
 ghost use Rattle.options.specs.Reading.{among};
-ghost use Rattle.options.specs.Kinds.{kindOf, both, multiples, isLength, lengthFits, addressesOf, numbersOf, octetFits, number16Fits, rising, noZeroFirst, trimmed, textFits, valueFits};
-ghost use Rattle.kinds.specs.Numbers.{kindNumber, kindAt, faultOf, faultAs, isList, listFits, numberFits};
+ghost use Rattle.options.specs.Kinds.{kindOf, multiples, isLength, addressesOf, numbersOf, rising, noZeroFirst, trimmed, fromTo, textFits, orNine};
+ghost use Rattle.kinds.specs.Numbers.{kindNumber, rowAt, kindNumbered, faultOf, faultNumbered, lengthFits, valueFaultIn, isList, listFault, numberFault};
+ghost use Rattle.kinds.specs.Parts.{octetFits, number16Fits};
 
 // The kinds as numbers (document 01, The kinds): its rows in their order, and 0 for a code that has none.
 pub const NO_ROW: u8 = 0;
@@ -32,42 +32,36 @@ pub const TEXT: u8 = 10;
 
 pub const OPAQUE: u8 = 11;
 
-// The kind of the code c, as a number, row by row (document 01, The kinds, by code). A row with neighbours has two arms: neighbours in one arm become a range,
-// and ranges are tested one by one, while single codes are looked up.
+// The numbers of the rows (crates/ranges/specs/Rows.antt) have that of their kind in the low four bits. The first row of a kind has the number of the kind;
+// these are the others, by their codes.
+const ROW_68: u8 = ADDRESSES + 16;
+
+const ROW_33: u8 = PAIRS + 16;
+
+const ROW_46: u8 = OCTET + 16;
+
+const ROW_52: u8 = OCTET + 32;
+
+const ROW_53: u8 = OCTET + 48;
+
+const ROW_22: u8 = NUMBER16 + 16;
+
+const ROW_26: u8 = NUMBER16 + 32;
+
+const ROW_61: u8 = OPAQUE + 16;
+
+// The kind of a row, by the row's number; 0 for no row.
+pub fn kind_of(row: u8) -> u8
+    ensures { λ r. ⌜ r ≡ kindNumbered row ⌝ }
+{
+    row % 16
+}
+
+// The kind of the code c, as a number (document 01, The kinds, by code).
 pub fn kind(c: u8) -> u8
     ensures { λ r. ⌜ r ≡ kindNumber (kindOf c) ⌝ }
 {
-    match c {
-        1 | 16 | 28 | 32 | 50 | 54 => ADDRESS,
-        3 | 5 | 7 | 9 | 11 | 41 | 44 | 48 | 65 | 68 | 70 | 72 | 74 | 76 => ADDRESSES,
-        4 | 6 | 8 | 10 | 42 | 45 | 49 | 69 | 71 | 73 | 75 => ADDRESSES,
-        21 | 33 => PAIRS,
-        19 | 27 | 29 | 31 | 34 | 36 | 39 => FLAG,
-        20 | 30 => FLAG,
-        23 | 37 | 46 | 52 => OCTET,
-        53 => OCTET,
-        13 | 22 | 57 | 26 => NUMBER16,
-        25 => NUMBERS16,
-        24 | 35 | 38 | 51 | 58 => UNSIGNED32,
-        59 => UNSIGNED32,
-        2 => SIGNED32,
-        12 | 14 | 17 | 40 | 56 | 64 | 66 => TEXT,
-        15 | 18 | 67 => TEXT,
-        43 | 47 | 55 | 60 => OPAQUE,
-        61 => OPAQUE,
-        _ => NO_ROW,
-    }
-}
-
-// Whether the kind of the code c is text. A table for this question alone: `kind` is then asked at one place of the lookup, and compiled into it.
-pub fn is_text(c: u8) -> bool
-    ensures { λ r. ⌜ r ≡ eqb (kindNumber (kindOf c)) 10 ⌝ }
-{
-    match c {
-        12 | 14 | 17 | 40 | 56 | 64 | 66 => true,
-        15 | 18 | 67 => true,
-        _ => false,
-    }
+    kind_of(ranges::row(c))
 }
 
 // The length of a text without its trailing zeros (document 01, The kinds).
@@ -92,7 +86,7 @@ pub fn text_fits(t: &[u8]) -> bool
     let n = text_len(t);
     let mut i: usize = 0;
     while i < n {
-        if !from_one(t[i], 127) {
+        if !from_to(t[i], 1, 127) {
             return false;
         }
         i = i + 1;
@@ -105,33 +99,27 @@ pub fn text_fits(t: &[u8]) -> bool
 pub fn fault(c: u8, d: &[u8]) -> u8
     ensures { λ r. ⌜ r ≡ faultOf c (now (d .entry)) ⌝ }
 {
-    fault_of(kind(c), c, d)
+    fault_in(ranges::row(c), d)
 }
 
-// The same, for who has asked for the kind k of the code already.
-pub fn fault_of(k: u8, c: u8, d: &[u8]) -> u8
-    ensures { λ r. ⌜ r ≡ faultAs k c (now (d .entry)) ⌝ }
+// The same, by the row's number.
+pub fn fault_in(row: u8, d: &[u8]) -> u8
+    ensures { λ r. ⌜ r ≡ faultNumbered row (now (d .entry)) ⌝ }
 {
-    if k == NO_ROW {
-        return 0;
-    }
-    if !length_fits(k, c, d.len()) {
+    if !length_fits(row, d.len()) {
         return 8;
     }
-    if !value_fits(k, c, d) {
-        return 9;
-    }
-    0
+    value_fault(row, d)
 }
 
-// The rule of length of the kind k; 68 may also have length 0, and 61 has at least 2.
-pub fn length_fits(k: u8, c: u8, n: usize) -> bool
-    ensures { λ r. ⌜ r ≡ lengthFits (kindAt k) c n ⌝ }
+// The rule of length of a row; 68 may also have length 0, and 61 has at least 2.
+pub fn length_fits(row: u8, n: usize) -> bool
+    ensures { λ r. ⌜ r ≡ lengthFits (rowAt row) n ⌝ }
 {
-    match k {
+    match row % 16 {
         ADDRESS => n == 4,
         ADDRESSES => {
-            if c == 68 {
+            if row == ROW_68 {
                 return stepped(n, 0, 4);
             }
             stepped(n, 4, 4)
@@ -144,12 +132,13 @@ pub fn length_fits(k: u8, c: u8, n: usize) -> bool
         UNSIGNED32 => n == 4,
         SIGNED32 => n == 4,
         TEXT => stepped(n, 1, 1),
-        _ => {
-            if c == 61 {
+        OPAQUE => {
+            if row == ROW_61 {
                 return stepped(n, 2, 1);
             }
             stepped(n, 1, 1)
         }
+        _ => true,
     }
 }
 
@@ -164,67 +153,86 @@ fn stepped(n: usize, least: usize, unit: usize) -> bool
     n % unit == 0
 }
 
-// The rule of value of the kind k; many kinds have none.
-fn value_fits(k: u8, c: u8, d: &[u8]) -> bool
-    ensures { λ r. ⌜ r ≡ valueFits (kindAt k) c (now (d .entry)) ⌝ }
+// The rule of value of a row; many rows have none.
+fn value_fault(row: u8, d: &[u8]) -> u8
+    ensures { λ r. ⌜ r ≡ valueFaultIn (rowAt row) (now (d .entry)) ⌝ }
 {
-    if is_list(k) {
-        return list_fits(k, c, d);
+    if is_list(row) {
+        return list_fault(row, d);
     }
-    number_fits(k, c, d)
+    number_fault(row, d)
 }
 
-// Whether all bytes of data of the kind k are looked at, by its rule of value or for the answer. Of the other kinds the first four are enough.
-pub fn is_list(k: u8) -> bool
-    ensures { λ r. ⌜ r ≡ isList (kindAt k) ⌝ }
+// Whether all bytes of data are looked at, by a row's rule of value or for the answer. By the other rows the first four are enough.
+pub fn is_list(row: u8) -> bool
+    ensures { λ r. ⌜ r ≡ isList (rowAt row) ⌝ }
 {
-    match k {
-        PAIRS => true,
+    match row % 16 {
+        PAIRS => row == ROW_33,
         NUMBERS16 => true,
         TEXT => true,
         _ => false,
     }
 }
 
-// The rule of value of those kinds.
-pub fn list_fits(k: u8, c: u8, d: &[u8]) -> bool
-    ensures { λ r. ⌜ r ≡ listFits (kindAt k) c (now (d .entry)) ⌝ }
+// The rule of value of those rows.
+pub fn list_fault(row: u8, d: &[u8]) -> u8
+    ensures { λ r. ⌜ r ≡ listFault (rowAt row) (now (d .entry)) ⌝ }
 {
-    match k {
+    match row % 16 {
         PAIRS => {
-            if c == 33 {
-                return destinations_fit(d);
+            if row == ROW_33 {
+                return or_nine(destinations_fit(d));
             }
-            true
+            0
         }
-        NUMBERS16 => never_falling(d),
-        TEXT => text_fits(d),
-        _ => true,
+        NUMBERS16 => or_nine(never_falling(d)),
+        TEXT => or_nine(text_fits(d)),
+        _ => 0,
     }
 }
 
-// That of the other kinds.
-pub fn number_fits(k: u8, c: u8, d: &[u8]) -> bool
-    ensures { λ r. ⌜ r ≡ numberFits (kindAt k) c (now (d .entry)) ⌝ }
+// That of the other rows.
+pub fn number_fault(row: u8, d: &[u8]) -> u8
+    ensures { λ r. ⌜ r ≡ numberFault (rowAt row) (now (d .entry)) ⌝ }
 {
-    match k {
-        FLAG => num::byte(d, 0) <= 1,
-        OCTET => octet_fits(c, num::byte(d, 0)),
-        NUMBER16 => number16_fits(c, num::first16(d)),
-        _ => true,
+    match row % 16 {
+        FLAG => or_nine(from_to(num::byte(d, 0), 0, 1)),
+        OCTET => or_nine(octet_fits(row, num::byte(d, 0))),
+        NUMBER16 => or_nine(number16_fits(row, num::first16(d))),
+        _ => 0,
     }
 }
 
 // 46: 1, 2, 4 or 8; 52: 1 to 3; 53: 1 to 8; 23 and 37: 1 to 255.
-fn octet_fits(c: u8, v: u8) -> bool
-    ensures { λ r. ⌜ r ≡ octetFits c v ⌝ }
+fn octet_fits(row: u8, v: u8) -> bool
+    requires { ⌜ row % 16 ≡ 5 ⌝ }
+    ensures { λ r. ⌜ r ≡ octetFits (rowAt row) v ⌝ }
 {
-    match c {
-        46 => one_of_four(v),
-        52 => from_one(v, 3),
-        53 => from_one(v, 8),
-        _ => from_one(v, 255),
+    match row {
+        ROW_46 => one_of_four(v),
+        ROW_52 => from_to(v, 1, 3),
+        ROW_53 => from_to(v, 1, 8),
+        _ => from_to(v, 1, 255),
     }
+}
+
+// 22 and 57: at least 576; 26: at least 68; 13: any.
+fn number16_fits(row: u8, v: u16) -> bool
+    requires { ⌜ row % 16 ≡ 6 ⌝ }
+    ensures { λ r. ⌜ r ≡ number16Fits (rowAt row) v ⌝ }
+{
+    match row {
+        ROW_22 => 576 <= v,
+        ROW_26 => 68 <= v,
+        _ => true,
+    }
+}
+
+fn or_nine(right: bool) -> u8
+    ensures { λ r. ⌜ r ≡ orNine right ⌝ }
+{
+    if right { 0 } else { 9 }
 }
 
 fn one_of_four(v: u8) -> bool
@@ -239,25 +247,13 @@ fn one_of_four(v: u8) -> bool
     }
 }
 
-fn from_one(v: u8, most: u8) -> bool
-    ensures { λ r. ⌜ r ≡ both (leb 1 v) (leb v most) ⌝ }
+fn from_to(v: u8, least: u8, most: u8) -> bool
+    ensures { λ r. ⌜ r ≡ fromTo least most v ⌝ }
 {
-    if v < 1 {
+    if v < least {
         return false;
     }
     v <= most
-}
-
-// 22 and 57: at least 576; 26: at least 68; 13: any.
-fn number16_fits(c: u8, v: u16) -> bool
-    ensures { λ r. ⌜ r ≡ number16Fits c v ⌝ }
-{
-    match c {
-        22 => 576 <= v,
-        57 => 576 <= v,
-        26 => 68 <= v,
-        _ => true,
-    }
 }
 
 // 25: whether the 16-bit numbers of d are each at least 68 and never fall. A number is held to the one before it, the first to 68.

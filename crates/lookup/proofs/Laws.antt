@@ -12,11 +12,10 @@ use lib.Seq.{take-at, getD-take}
 use borrow.Author.Tests.{eq-eqb, ne-eqb, eqb-true, eqb-false, le-leb, lt-leb}
 use Rattle.options.specs.Message.{Field, options, file, sname, start, bytes, Opt, dataStart, place, In, endToEnd, Standing}
 use Rattle.options.specs.Reading.{Reading, accepted, refused, readMessage, pieces}
-use Rattle.options.specs.Kinds.{Kind, address, addresses, pairs, flag, octet, number16, numbers16, unsigned32, signed32, text, opaque, kindOf, lengthFits, first16, first32, trimmed, textFits, valueFits, meaning, judged, broken, hasRow, judgedBy, kinds}
+use Rattle.options.specs.Kinds.{trimmed, kinds}
 use Rattle.options.specs.KindClaims.{AllBytes}
 use Rattle.options.specs.Answers as asked
-use Rattle.kinds.specs.Numbers.{numberOf, kindNumber, numberOfFault, faultOf, isList, listFits, numberFits}
-use Rattle.kinds.proofs.Numbering.{named, numbered, fault-broken, fault-kept}
+use Rattle.kinds.specs.Numbers.{kindNumbered, faultNumbered}
 use Rattle.theorems.proofs.View.{clash}
 use Rattle.theorems.proofs.Fields.{option-in}
 use Rattle.theorems.proofs.Reading.{listed-stands, listed-bytes}
@@ -29,161 +28,9 @@ use Rattle.text.specs.Text.{Puts}
 use Rattle.buffer.proofs.Writing.{written-as, written-front}
 use Rattle.cursor.specs.Cursor.{firstPosition}
 use Rattle.gather.specs.Joined.{joinedFrom}
-use Rattle.lookup.specs.Found.{originAt, knownKind, contentBy, meaningOf, judgedOf, sizeAt, dataAt, InPieces, clipped}
+use Rattle.lookup.specs.Found.{originAt, knownRow, contentBy, sizeAt, dataAt, InPieces, clipped}
+use Rattle.lookup.proofs.Verdicts.{by-row, text-other, text-lost, text-found}
 use Rattle.lookup.proofs.Halves.{lastOf, last-place, last-in, inside, data-is, piece-stands, first-stands, last-stands, last-apart, both-all}
-
--- ---- what is answered of data, by the tests that the code makes
-
-module _ (set : ℕ → Bool) (c : ℕ) (d : List ℕ) where
-  not-known : asked.isKnown kinds set c ≡ false → asked.unknown (length d) ≡ asked.contentOf kinds set c d
-  not-known e = rw e
-
-  pub judged-no-row : kindOf c ≡ none → asked.unknown (length d) ≡ asked.contentOf kinds set c d
-  judged-no-row e = not-known (rw e (go (set c)))
-    where
-      go : (b : Bool) → cond b false false ≡ false
-      go true = refl
-      go false = refl
-
-  pub judged-unmarked : set c ≡ false → asked.unknown (length d) ≡ asked.contentOf kinds set c d
-  judged-unmarked e = not-known (rw e)
-
-  module _ (k : Kind) (r : kindOf c ≡ some k) (t : set c ≡ true) where
-    judged-known : asked.known (kinds .value c d) ≡ asked.contentOf kinds set c d
-    judged-known = rw (t, r)
-
-    pub judged-broken : (n : ℕ) → n ≡ faultOf c d → (n ≡ 0 → ⊥) → asked.known (broken n) ≡ asked.contentOf kinds set c d
-    judged-broken n f z = ap asked.known (sym (fault-broken c d n f z)) ∙ judged-known
-
-    pub judged-kept : faultOf c d ≡ 0 → asked.known (meaning k d) ≡ asked.contentOf kinds set c d
-    judged-kept f = ap asked.known (sym (fault-kept c k d r f)) ∙ judged-known
-
--- the same by the number of the kind
-pub by-kind : (set : ℕ → Bool) (c : ℕ) (d : List ℕ) → contentBy (knownKind set c) c d ≡ asked.contentOf kinds set c d
-unfolding contentBy
-by-kind set c d = go (set c) (kindOf c) refl
-  where
-    go : (b : Bool) (o : Option Kind) → kindOf c ≡ o
-        → contentBy (cond b (kindNumber o) 0) c d ≡ cond (cond b (hasRow o) false) (asked.known (judgedBy o c d)) (asked.unknown (length d))
-    go false o e = refl
-    go true none e = refl
-    go true (some k) e = rw (ne-eqb (numberOf k) 0 (numbered k), named k)
-
--- ---- several pieces: by the first four bytes, or by all
-
-never : {X : Type 0} → _≡_ {A = Bool} false true → X
-never e = absurd (let z : _≡_ {A = ℕ} 0 1 = cc in omega arith)
-
-module _ (d h : List ℕ) (head-byte : (i : ℕ) → i < 4 → getD h i 0 ≡ getD d i 0) where
-  head16 : first16 h ≡ first16 d
-  head16 = rw (head-byte 0 (omega arith), head-byte 1 (omega arith))
-
-  head32 : first32 h ≡ first32 d
-  head32 = rw (head-byte 0 (omega arith), head-byte 1 (omega arith), head-byte 2 (omega arith), head-byte 3 (omega arith))
-
-  pub by-first-four : (k : Kind) (c : ℕ) → isList k ≡ false → judgedOf k c (length d) (numberFits k c h) h ≡ judged k c d
-  unfolding judgedOf judged meaning meaningOf valueFits
-  by-first-four address c z = rw head32
-  by-first-four addresses c z = refl
-  by-first-four pairs c z = never (sym z)
-  by-first-four flag c z = rw (head-byte 0 (omega arith))
-  by-first-four octet c z = rw (head-byte 0 (omega arith))
-  by-first-four number16 c z = rw head16
-  by-first-four numbers16 c z = never (sym z)
-  by-first-four unsigned32 c z = rw head32
-  by-first-four signed32 c z = rw head32
-  by-first-four text c z = never (sym z)
-  by-first-four opaque c z = refl
-
-module _ (d : List ℕ) where
-  pub by-all : (k : Kind) (c : ℕ) → isList k ≡ true → judgedOf k c (length d) (listFits k c d) d ≡ judged k c d
-  unfolding judgedOf judged meaning meaningOf valueFits
-  by-all address c h = never h
-  by-all addresses c h = never h
-  by-all pairs c h = refl
-  by-all flag c h = never h
-  by-all octet c h = never h
-  by-all number16 c h = never h
-  by-all numbers16 c h = refl
-  by-all unsigned32 c h = never h
-  by-all signed32 c h = never h
-  by-all text c h = refl
-  by-all opaque c h = never h
-
--- ---- the text of an option in one piece, by the tests that the code makes
-
--- no other kind has a text
-meant-else : (g : asked.Origin) (k : Kind) (d : List ℕ) → (numberOf k ≡ 10 → ⊥) → asked.noExtent ≡ asked.textFound g (meaning k d)
-unfolding meaning
-meant-else g address d z = refl
-meant-else g addresses d z = refl
-meant-else g pairs d z = refl
-meant-else g flag d z = refl
-meant-else g octet d z = refl
-meant-else g number16 d z = refl
-meant-else g numbers16 d z = refl
-meant-else g unsigned32 d z = refl
-meant-else g signed32 d z = refl
-meant-else g text d z = absurd (z refl)
-meant-else g opaque d z = refl
-
--- the verdict on a text, by its bytes
-text-unfit : (c : ℕ) (d : List ℕ) → kindOf c ≡ some text → textFits d ≡ false → faultOf c d ≡ 0 → ⊥
-unfolding faultOf judged valueFits
-text-unfit c d r f z = go (lengthFits text c (length d)) (rw (r, f) at z)
-  where
-    go : (long : Bool) → numberOfFault (cond long (broken 9) (broken 8)) ≡ 0 → ⊥
-    go true e = omega (arith, e)
-    go false e = omega (arith, e)
-
-some-text : (c x : ℕ) (d : List ℕ) → kindOf c ≡ some text → textFits (x ∷ d) ≡ true → faultOf c (x ∷ d) ≡ 0
-unfolding faultOf judged lengthFits valueFits meaning
-some-text c x d r f = rw (r, le-leb 1 (suc (length d)) (omega arith), eq-eqb (suc (length d) % 1) 0 (omega arith), f)
-
--- a text with right bytes that breaks its kind is empty
-empty-text : (c : ℕ) (d : List ℕ) → kindOf c ≡ some text → textFits d ≡ true → (faultOf c d ≡ 0 → ⊥) → trimmed d ≡ 0
-unfolding trimmed
-empty-text c [] r f z = refl
-empty-text c (x ∷ d) r f z = absurd (z (some-text c x d r f))
-
-module _ (set : ℕ → Bool) (c : ℕ) (o : Opt) (d : List ℕ) where
-  abbrev textHere : asked.Content → asked.Extent
-  textHere x = asked.textIn (asked.Found (asked.originOf o []) x)
-
-  pub text-unmarked : set c ≡ false → asked.noExtent ≡ textHere (asked.contentOf kinds set c d)
-  text-unmarked e = ap textHere (judged-unmarked set c d e)
-
-  text-broken : (k : Kind) → kindOf c ≡ some k → set c ≡ true → (faultOf c d ≡ 0 → ⊥) → asked.noExtent ≡ textHere (asked.contentOf kinds set c d)
-  text-broken k r e y = ap textHere (judged-broken set c d k r e (faultOf c d) refl y)
-
-  text-kept : kindOf c ≡ some text → set c ≡ true → faultOf c d ≡ 0 → asked.extent (dataStart o) (trimmed d) ≡ textHere (asked.contentOf kinds set c d)
-  unfolding meaning
-  text-kept r e f = ap textHere (judged-kept set c d text r e f)
-
-  pub text-lost : kindOf c ≡ some text → set c ≡ true → textFits d ≡ false → asked.noExtent ≡ textHere (asked.contentOf kinds set c d)
-  text-lost r e f = text-broken text r e (text-unfit c d r f)
-
-  pub text-found : kindOf c ≡ some text → set c ≡ true → textFits d ≡ true → asked.extent (dataStart o) (trimmed d) ≡ textHere (asked.contentOf kinds set c d)
-  text-found r e f = go (eqb (faultOf c d) 0) refl
-    where
-      go : (b : Bool) → eqb (faultOf c d) 0 ≡ b → asked.extent (dataStart o) (trimmed d) ≡ textHere (asked.contentOf kinds set c d)
-      go true q = text-kept r e (eqb-true (faultOf c d) 0 q)
-      go false q = ap (asked.extent (dataStart o)) (empty-text c d r f (eqb-false (faultOf c d) 0 q)) ∙ text-broken text r e (eqb-false (faultOf c d) 0 q)
-
-  pub text-else : (kindNumber (kindOf c) ≡ 10 → ⊥) → asked.noExtent ≡ textHere (asked.contentOf kinds set c d)
-  text-else y = row-of (kindOf c) refl
-    where
-      row-of : (x : Option Kind) → kindOf c ≡ x → asked.noExtent ≡ textHere (asked.contentOf kinds set c d)
-      row-of none r = ap textHere (judged-no-row set c d r)
-      row-of (some k) r = mark (set c) refl
-        where
-          fault : (b : Bool) → eqb (faultOf c d) 0 ≡ b → set c ≡ true → asked.noExtent ≡ textHere (asked.contentOf kinds set c d)
-          fault true q e = meant-else (asked.originOf o []) k d (λ t. y (ap kindNumber r ∙ t)) ∙ ap textHere (judged-kept set c d k r e (eqb-true (faultOf c d) 0 q))
-          fault false q e = text-broken k r e (eqb-false (faultOf c d) 0 q)
-
-          mark : (b : Bool) → set c ≡ b → asked.noExtent ≡ textHere (asked.contentOf kinds set c d)
-          mark true e = fault (eqb (faultOf c d) 0) refl e
-          mark false e = text-unmarked e
 
 -- a part of no bytes is empty
 clip-is : (s n : ℕ) → clipped s n ≡ asked.extent s n
@@ -438,30 +285,34 @@ module _ (m : List ℕ) (c : ℕ) where
             rw (x .origin, joined-is c m r os a, x .are) (ap (asked.shown kinds set c) (sym (x .are)) ∙ lookup-read set (accepted os) (a .reads))
 
         -- its text
-        text-of : (x : One m r (pieces c os)) → textHere set c (x .option) (x .option .item .body) (asked.contentOf kinds set c (x .option .item .body)) ≡ asked.textOf set m c
-        unfolding asked.textOf
-        text-of x = ap asked.textIn (found-one x)
-
         module _ (s : r .start ≡ 0 → ⊥) (h : r .last + 2 ≡ r .start) where
           abbrev here : One m r (pieces c os)
           here = one-met c m r os a s h
 
-          pub text-no-kind : (kindNumber (kindOf c) ≡ 10 → ⊥) → asked.noExtent ≡ asked.textOf set m c
-          text-no-kind y = text-else set c (here .option) (here .option .item .body) y ∙ text-of here
+          abbrev own : asked.Origin
+          own = asked.originOf (here .option) []
 
-          pub text-not-marked : set c ≡ false → asked.noExtent ≡ asked.textOf set m c
-          text-not-marked y = text-unmarked set c (here .option) (here .option .item .body) y ∙ text-of here
+          -- by its row
+          text-of : (d : List ℕ) → d ≡ here .option .item .body → asked.textIn (asked.Found own (contentBy (knownRow set c) d)) ≡ asked.textOf set m c
+          unfolding asked.textOf
+          text-of d e =
+              ap (λ (x : asked.Content). asked.textIn (asked.Found own x)) (by-row set c d ∙ ap (asked.contentOf kinds set c) e) ∙ ap asked.textIn (found-one here)
 
-          pub text-not-fit : kindOf c ≡ some text → set c ≡ true → textFits (take (r .whole) (drop (r .start) m)) ≡ false → asked.noExtent ≡ asked.textOf set m c
-          text-not-fit k y f = text-lost set c (here .option) (here .option .item .body) k y (sym (ap textFits (here .own)) ∙ f) ∙ text-of here
+          abbrev body : List ℕ
+          body = take (r .whole) (drop (r .start) m)
 
-          pub text-here : kindOf c ≡ some text → set c ≡ true → textFits (take (r .whole) (drop (r .start) m)) ≡ true
-              → clipped (r .start) (trimmed (take (r .whole) (drop (r .start) m))) ≡ asked.textOf set m c
-          text-here k y f =
-              ap₂ (λ (n : ℕ) (d : List ℕ). clipped n (trimmed d)) (here .start) (here .own)
-              ∙ clip-is (dataStart (here .option)) (trimmed (here .option .item .body))
-              ∙ text-found set c (here .option) (here .option .item .body) k y (sym (ap textFits (here .own)) ∙ f)
-              ∙ text-of here
+          pub text-not-kind : (kindNumbered (knownRow set c) ≡ 10 → ⊥) → asked.noExtent ≡ asked.textOf set m c
+          text-not-kind y = text-other own refl (knownRow set c) body y ∙ text-of body (here .own)
+
+          pub text-broken : (faultNumbered (knownRow set c) body ≡ 0 → ⊥) → asked.noExtent ≡ asked.textOf set m c
+          text-broken y = text-lost own refl (knownRow set c) body y ∙ text-of body (here .own)
+
+          pub text-here : kindNumbered (knownRow set c) ≡ 10 → faultNumbered (knownRow set c) body ≡ 0 → clipped (r .start) (trimmed body) ≡ asked.textOf set m c
+          text-here y f =
+              ap (λ (n : ℕ). clipped n (trimmed body)) (here .start)
+              ∙ clip-is (dataStart (here .option)) (trimmed body)
+              ∙ text-found own refl (knownRow set c) body y f
+              ∙ text-of body (here .own)
 
         pub text-several : (r .start ≡ 0 → ⊥) → (r .last + 2 ≡ r .start → ⊥) → asked.noExtent ≡ asked.textOf set m c
         unfolding asked.textOf

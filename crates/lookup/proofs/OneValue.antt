@@ -6,7 +6,7 @@ use lib.Dec.{eqb}
 use lib.IntN.{ℤ, pos, negsuc}
 use Rattle.options.specs.Kinds.{broken, number, part}
 use Rattle.options.specs.Answers as asked
-use Rattle.kinds.specs.Numbers.{numberOf}
+use Rattle.ranges.specs.Rows.{numberOf}
 use Rattle.message.specs.declared.Field as coded
 use Rattle.message.specs.Fields.{fieldOf, codedField}
 use Rattle.message.proofs.Names.{field-back}

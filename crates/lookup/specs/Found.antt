@@ -7,9 +7,10 @@ use lib.Dec.{eqb, leb}
 use lib.IntN.{pos}
 use lib.ListN.{length, getD, take, drop}
 use Rattle.options.specs.Message.{options, file, sname, start}
-use Rattle.options.specs.Kinds.{Kind, address, addresses, pairs, flag, octet, number16, numbers16, unsigned32, signed32, text, opaque, Value, broken, number, part, kindOf, lengthFits, first16, first32, twosComplement, trimmed, meaning, judged}
+use Rattle.options.specs.Kinds.{Kind, address, addresses, pairs, flag, octet, number16, numbers16, unsigned32, signed32, text, opaque, Value, broken, number, part, unless, first16, first32, twosComplement, trimmed, meaning, judged, judgedBy}
 use Rattle.options.specs.Answers as asked
-use Rattle.kinds.specs.Numbers.{kindNumber, kindAt}
+use Rattle.ranges.specs.Rows.{rowNumber}
+use Rattle.kinds.specs.Numbers.{kindAt, rowAt, kindNumbered, lengthFits}
 use Rattle.message.specs.declared.Scanned.{Scanned}
 use Rattle.cursor.specs.Cursor.{firstPosition}
 use Rattle.gather.specs.Joined.{joinedFrom}
@@ -26,14 +27,14 @@ unfoldable pub valueOf : ℕ → List ℕ → asked.Content
 unfolding meaning
 valueOf k d = asked.known (meaning (kindAt k) d)
 
--- the number of the kind of the code c; 0 where it has none, or is not in the known set
-abbrev pub knownKind : (ℕ → Bool) → ℕ → ℕ
-knownKind set c = cond (set c) (kindNumber (kindOf c)) 0
+-- the number of the row of the code c; 0 where it has none, or is not in the known set
+abbrev pub knownRow : (ℕ → Bool) → ℕ → ℕ
+knownRow set c = cond (set c) (rowNumber c) 0
 
--- what is answered of the code c of the kind numbered k, 0 for none, with the data d
-unfoldable pub contentBy : ℕ → ℕ → List ℕ → asked.Content
-unfolding judged
-contentBy k c d = cond (eqb k 0) (asked.unknown (length d)) (asked.known (judged (kindAt k) c d))
+-- what is answered of a code whose row has the number n, 0 for none, with the data d
+unfoldable pub contentBy : ℕ → List ℕ → asked.Content
+unfolding rowAt judged
+contentBy n d = cond (eqb n 0) (asked.unknown (length d)) (asked.known (judgedBy (rowAt n) d))
 
 -- what n bytes of data of a kind mean, where d has as many of them as are looked at
 unfoldable pub meaningOf : Kind → ℕ → List ℕ → Value
@@ -50,14 +51,14 @@ meaningOf signed32 n d = number signed32 (twosComplement (first32 d))
 meaningOf text n d = part text (trimmed d)
 meaningOf opaque n d = part opaque n
 
--- the verdict on them, by the rule of length and by what the rule of value says
-unfoldable pub judgedOf : Kind → ℕ → ℕ → Bool → List ℕ → Value
-unfolding lengthFits meaningOf
-judgedOf k c n fits d = cond (lengthFits k c n) (cond fits (meaningOf k n d) (broken 9)) (broken 8)
+-- the verdict on them of the row with a number, by its rule of length and by what its rule of value says, a fault's number or 0
+unfoldable pub judgedOf : ℕ → ℕ → ℕ → List ℕ → Value
+unfolding rowAt meaningOf
+judgedOf row n fault d = cond (lengthFits (rowAt row) n) (unless fault (meaningOf (kindAt (kindNumbered row)) n d)) (broken 8)
 
 -- the answer for several pieces with the bytes d together, of which the first has its data at s
-abbrev pub severalAt : ℕ → ℕ → ℕ → List ℕ → asked.Answer
-severalAt k c s d = asked.Found (originAt (s - 2) (asked.inPieces (length d))) (contentBy k c d)
+abbrev pub severalAt : ℕ → ℕ → List ℕ → asked.Answer
+severalAt row s d = asked.Found (originAt (s - 2) (asked.inPieces (length d))) (contentBy row d)
 
 -- the data of the option whose code byte stands at the place p: the byte behind it has their length
 abbrev pub sizeAt : List ℕ → ℕ → ℕ

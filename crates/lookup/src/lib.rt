@@ -6,7 +6,7 @@ ghost use Prim.Native.Nat.{_≤_, _+_};
 ghost use lib.ListN.{length, getD};
 ghost use Rattle.message.specs.Scan.{scanOf};
 ghost use Rattle.message.specs.Part.{partAt};
-ghost use Rattle.options.specs.Kinds.{kinds, judged};
+ghost use Rattle.options.specs.Kinds.{kinds, judgedBy};
 ghost use Rattle.options.specs.CodeSet.{marked};
 ghost use Rattle.options.specs.Answers as asked;
 ghost use Rattle.cursor.specs.Cursor.{firstPosition};
@@ -15,8 +15,8 @@ ghost use Rattle.text.specs.Text.{Puts};
 ghost use Rattle.gather.specs.Joined.{joinedFrom};
 ghost use Rattle.filled.specs.Fill.{Fills};
 ghost use Rattle.lookup.specs.Shown.{contentOf, wholenessOf, originOf, answerOf, extentOf};
-ghost use Rattle.kinds.specs.Numbers.{kindAt, isList, listFits, numberFits};
-ghost use Rattle.lookup.specs.Found.{originAt, valueOf, knownKind, contentBy, meaningOf, judgedOf, severalAt, sizeAt, dataAt, InPieces, clipped};
+ghost use Rattle.kinds.specs.Numbers.{kindAt, rowAt, isList, listFault, numberFault};
+ghost use Rattle.lookup.specs.Found.{originAt, valueOf, knownRow, contentBy, meaningOf, judgedOf, severalAt, sizeAt, dataAt, InPieces, clipped};
 use filled::Given;
 use message::Field;
 use message::Scanned;
@@ -85,28 +85,28 @@ fn value(k: u8, d: &[u8]) -> Content
     }
 }
 
-// The kind of a code, as a number; 0 where it has none, or is not known.
-fn known_kind(known: [u64; 4], code: u8) -> u8
-    ensures { λ r. ⌜ r ≡ knownKind (marked known) code ⌝ }
+// The row of a code, as a number; 0 where it has none, or is not known.
+fn known_row(known: [u64; 4], code: u8) -> u8
+    ensures { λ r. ⌜ r ≡ knownRow (marked known) code ⌝ }
 {
     if codeset::contains(known, code) {
-        return kinds::kind(code);
+        return ranges::row(code);
     }
     0
 }
 
-// What is answered of a code of the kind k, with the data d.
-fn judge(k: u8, code: u8, d: &[u8]) -> Content
-    ensures { λ r. ⌜ contentOf r ≡ contentBy k code (now (d .entry)) ⌝ }
+// What is answered of a code with a row, with the data d.
+fn judge(row: u8, d: &[u8]) -> Content
+    ensures { λ r. ⌜ contentOf r ≡ contentBy row (now (d .entry)) ⌝ }
 {
-    if k == kinds::NO_ROW {
+    if row == 0 {
         return Content::Unknown(d.len());
     }
-    let number = kinds::fault_of(k, code, d);
+    let number = kinds::fault_in(row, d);
     if number != 0 {
         return Content::Broken(number as u32);
     }
-    value(k, d)
+    value(kinds::kind_of(row), d)
 }
 
 // What data of n bytes means, of which d has as many as the kind needs. Data in one piece goes by `value`, which is then called at one place and compiled
@@ -129,30 +129,32 @@ fn joined_value(k: u8, n: usize, d: &[u8]) -> Content
     }
 }
 
-// What is answered of a code of the kind k with n bytes, of which d has the first four.
-fn judge_head(k: u8, code: u8, n: usize, d: &[u8]) -> Content
-    ensures { λ r. ⌜ contentOf r ≡ asked.known (judgedOf (kindAt k) code n (numberFits (kindAt k) code (now (d .entry))) (now (d .entry))) ⌝ }
+// What is answered of n bytes by a row, where d has the first four.
+fn judge_head(row: u8, n: usize, d: &[u8]) -> Content
+    ensures { λ r. ⌜ contentOf r ≡ asked.known (judgedOf row n (numberFault (rowAt row) (now (d .entry))) (now (d .entry))) ⌝ }
 {
-    if !kinds::length_fits(k, code, n) {
+    if !kinds::length_fits(row, n) {
         return Content::Broken(8);
     }
-    if !kinds::number_fits(k, code, d) {
-        return Content::Broken(9);
+    let number = kinds::number_fault(row, d);
+    if number != 0 {
+        return Content::Broken(number as u32);
     }
-    joined_value(k, n, d)
+    joined_value(kinds::kind_of(row), n, d)
 }
 
 // The same, where d has all n bytes.
-fn judge_list(k: u8, code: u8, n: usize, d: &[u8]) -> Content
-    ensures { λ r. ⌜ contentOf r ≡ asked.known (judgedOf (kindAt k) code n (listFits (kindAt k) code (now (d .entry))) (now (d .entry))) ⌝ }
+fn judge_list(row: u8, n: usize, d: &[u8]) -> Content
+    ensures { λ r. ⌜ contentOf r ≡ asked.known (judgedOf row n (listFault (rowAt row) (now (d .entry))) (now (d .entry))) ⌝ }
 {
-    if !kinds::length_fits(k, code, n) {
+    if !kinds::length_fits(row, n) {
         return Content::Broken(8);
     }
-    if !kinds::list_fits(k, code, d) {
-        return Content::Broken(9);
+    let number = kinds::list_fault(row, d);
+    if number != 0 {
+        return Content::Broken(number as u32);
     }
-    joined_value(k, n, d)
+    joined_value(kinds::kind_of(row), n, d)
 }
 
 // The origin of an option whose code byte stands at a place of the message. The fields lie apart, so the place tells the field.
@@ -207,10 +209,10 @@ fn byte_of_both(a: &[u8], b: &[u8], i: usize) -> u8
     num::byte(b, i - a.len())
 }
 
-// What is answered of a code of the kind k whose bytes are two parts, where the kind looks at few of them.
-fn judge_both(k: u8, code: u8, a: &[u8], b: &[u8]) -> Content
-    requires { ⌜ isList (kindAt k) ≡ false ⌝ }
-    ensures { λ r. ⌜ contentOf r ≡ asked.known (judged (kindAt k) code (now (a .entry) ++ now (b .entry))) ⌝ }
+// What is answered of two parts by a row that looks at few bytes.
+fn judge_both(row: u8, a: &[u8], b: &[u8]) -> Content
+    requires { ⌜ isList (rowAt row) ≡ false ⌝ }
+    ensures { λ r. ⌜ contentOf r ≡ asked.known (judgedBy (rowAt row) (now (a .entry) ++ now (b .entry))) ⌝ }
 {
     let head = [
         byte_of_both(a, b, 0),
@@ -218,7 +220,7 @@ fn judge_both(k: u8, code: u8, a: &[u8], b: &[u8]) -> Content
         byte_of_both(a, b, 2),
         byte_of_both(a, b, 3),
     ];
-    judge_head(k, code, a.len() + b.len(), &head)
+    judge_head(row, a.len() + b.len(), &head)
 }
 
 // Puts two parts end to end at the front of a buffer, and gives the index after them.
@@ -249,58 +251,58 @@ fn put_pieces(m: &[u8], code: u8, w: Scanned, out: &mut [u8]) -> usize
     gather::gather(m, w.over, cursor::first(), code, out, 0)
 }
 
-// What is answered where the kind looks at all bytes: they are put into a buffer of the function's own.
-fn by_list(m: &[u8], k: u8, code: u8, w: Scanned) -> Content
-    requires { ⌜ (isList (kindAt k) ≡ true) × InPieces (now m) code w ⌝ }
-    ensures { λ r. ⌜ contentOf r ≡ asked.known (judged (kindAt k) code (joinedFrom (w .over) (now (m .entry)) firstPosition code)) ⌝ }
+// What is answered where the row looks at all bytes: they are put into a buffer of the function's own.
+fn by_list(m: &[u8], row: u8, code: u8, w: Scanned) -> Content
+    requires { ⌜ (isList (rowAt row) ≡ true) × InPieces (now m) code w ⌝ }
+    ensures { λ r. ⌜ contentOf r ≡ asked.known (judgedBy (rowAt row) (joinedFrom (w .over) (now (m .entry)) firstPosition code)) ⌝ }
 {
     let mut joined = [0u8; 1472];
     let n = put_pieces(m, code, w, &mut joined);
-    judge_list(k, code, n, &joined[..n])
+    judge_list(row, n, &joined[..n])
 }
 
-// What is answered where the kind looks at few: of three pieces or more the first four bytes are gathered.
-fn by_first_four(m: &[u8], k: u8, code: u8, w: Scanned) -> Content
-    requires { ⌜ (isList (kindAt k) ≡ false) × InPieces (now m) code w ⌝ }
-    ensures { λ r. ⌜ contentOf r ≡ asked.known (judged (kindAt k) code (joinedFrom (w .over) (now (m .entry)) firstPosition code)) ⌝ }
+// What is answered where the row looks at few: of three pieces or more the first four bytes are gathered.
+fn by_first_four(m: &[u8], row: u8, code: u8, w: Scanned) -> Content
+    requires { ⌜ (isList (rowAt row) ≡ false) × InPieces (now m) code w ⌝ }
+    ensures { λ r. ⌜ contentOf r ≡ asked.known (judgedBy (rowAt row) (joinedFrom (w .over) (now (m .entry)) firstPosition code)) ⌝ }
 {
     let mut head = [0u8; 4];
     let h = gather::gather(m, w.over, cursor::first(), code, &mut head, 0);
-    judge_head(k, code, w.whole, &head[..h])
+    judge_head(row, w.whole, &head[..h])
 }
 
-fn by_head(m: &[u8], k: u8, code: u8, w: Scanned) -> Content
-    requires { ⌜ (isList (kindAt k) ≡ false) × InPieces (now m) code w ⌝ }
-    ensures { λ r. ⌜ contentOf r ≡ asked.known (judged (kindAt k) code (joinedFrom (w .over) (now (m .entry)) firstPosition code)) ⌝ }
+fn by_head(m: &[u8], row: u8, code: u8, w: Scanned) -> Content
+    requires { ⌜ (isList (rowAt row) ≡ false) × InPieces (now m) code w ⌝ }
+    ensures { λ r. ⌜ contentOf r ≡ asked.known (judgedBy (rowAt row) (joinedFrom (w .over) (now (m .entry)) firstPosition code)) ⌝ }
 {
     let first = piece(m, w.start - 2);
     let last = piece(m, w.last);
     if first.len() + last.len() == w.whole {
-        return judge_both(k, code, first, last);
+        return judge_both(row, first, last);
     }
-    by_first_four(m, k, code, w)
+    by_first_four(m, row, code, w)
 }
 
-fn judge_pieces(m: &[u8], k: u8, code: u8, w: Scanned) -> Content
+fn judge_pieces(m: &[u8], row: u8, code: u8, w: Scanned) -> Content
     requires { ⌜ InPieces (now m) code w ⌝ }
-    ensures { λ r. ⌜ contentOf r ≡ contentBy k code (joinedFrom (w .over) (now (m .entry)) firstPosition code) ⌝ }
+    ensures { λ r. ⌜ contentOf r ≡ contentBy row (joinedFrom (w .over) (now (m .entry)) firstPosition code) ⌝ }
 {
-    if k == kinds::NO_ROW {
+    if row == 0 {
         return Content::Unknown(w.whole);
     }
-    if kinds::is_list(k) {
-        return by_list(m, k, code, w);
+    if kinds::is_list(row) {
+        return by_list(m, row, code, w);
     }
-    by_head(m, k, code, w)
+    by_head(m, row, code, w)
 }
 
-// The answer for a code of the kind k that comes in several pieces.
-fn in_pieces(m: &[u8], k: u8, code: u8, w: Scanned) -> Answer
+// The answer for a code that comes in several pieces.
+fn in_pieces(m: &[u8], row: u8, code: u8, w: Scanned) -> Answer
     requires { ⌜ InPieces (now m) code w ⌝ }
-    ensures { λ r. ⌜ answerOf r ≡ severalAt k code (w .start) (joinedFrom (w .over) (now (m .entry)) firstPosition code) ⌝ }
+    ensures { λ r. ⌜ answerOf r ≡ severalAt row (w .start) (joinedFrom (w .over) (now (m .entry)) firstPosition code) ⌝ }
 {
     let origin = origin_at(w.start - 2, Wholeness::InPieces(w.whole));
-    let content = judge_pieces(m, k, code, w);
+    let content = judge_pieces(m, row, code, w);
     Answer::Found { origin, content }
 }
 
@@ -319,14 +321,14 @@ fn answer_in(m: &[u8], known: [u64; 4], code: u8, w: Scanned) -> Answer
     if start == 0 {
         return Answer::Absent;
     }
-    let k = known_kind(known, code);
+    let row = known_row(known, code);
     if w.last + 2 != start {
-        return in_pieces(m, k, code, w);
+        return in_pieces(m, row, code, w);
     }
     let end = start + w.whole;
-    // Before the data are judged: the compiler then goes from a kind straight to its answer.
+    // Before the data are judged: the compiler then goes from a row straight to its answer.
     let origin = origin_at(start - 2, Wholeness::InOne);
-    let content = judge(k, code, &m[start..end]);
+    let content = judge(row, &m[start..end]);
     Answer::Found { origin, content }
 }
 
@@ -404,7 +406,7 @@ fn text_in(m: &[u8], set: [u64; 4], code: u8, w: Scanned) -> Extent
     if w.last + 2 != start {
         return Extent { start: 0, len: 0 };
     }
-    if !kinds::is_text(code) {
+    if !ranges::is_text(code) {
         return Extent { start: 0, len: 0 };
     }
     if !codeset::contains(set, code) {
@@ -412,7 +414,8 @@ fn text_in(m: &[u8], set: [u64; 4], code: u8, w: Scanned) -> Extent
     }
     let end = start + w.whole;
     let t = &m[start..end];
-    if !kinds::text_fits(t) {
+    // The texts have one row, with the number of their kind.
+    if kinds::fault_in(kinds::TEXT, t) != 0 {
         return Extent { start: 0, len: 0 };
     }
     clip(start, kinds::text_len(t))

@@ -3,12 +3,12 @@ use mathlib.Core.Path.{_≡_, refl, sym, ap, _∙_}
 use mathlib.Core.List.{List, [], _∷_}
 use mathlib.Core.Bool.{Bool, true, false, cond}
 use mathlib.Core.Option.{Option, none, some}
-use Prim.Native.Nat.{ℕ, _≤_, _<_}
+use Prim.Native.Nat.{ℕ, zero, suc, _≤_, _<_}
 use native.Mathlib.Omega.{arith}
 use lib.ListN.{length}
 use borrow.Author.Tests.{lt-ltb, le-ltb}
 use Rattle.options.specs.Message.{Rec}
-use Rattle.options.specs.Kinds.{Kind, Value, broken, number, part, kindOf, hasRow, judgedBy, judged, meaning, lengthFits, valueFits, kinds}
+use Rattle.options.specs.Kinds.{Row, Value, broken, number, part, rowOf, kindBy, hasRow, fault, unless, judgedBy, judged, meaning, kinds}
 use Rattle.options.specs.Reading.{either, among}
 use Rattle.options.specs.SheetWalk.{Sheet, faulty, Rule, tested, isBroken, brokenBy, breaksKind}
 use Rattle.options.specs.Writing.{writerRules}
@@ -20,10 +20,10 @@ use Rattle.sheet.specs.Parts.{noTags, longBroken, metBroken}
 
 -- ---- The rule of the kind
 
-by-kind : (o : Option Kind) (c : ℕ) (d : List ℕ)
-    → cond (cond (hasRow o) (isBroken (judgedBy o c d)) false) (brokenBy (judgedBy o c d)) 0 ≡ numberOfFault (judgedBy o c d)
-by-kind none c d = refl
-by-kind (some k) c d = own (judged k c d)
+by-kind : (o : Option Row) (d : List ℕ)
+    → cond (cond (hasRow (kindBy o)) (isBroken (judgedBy o d)) false) (brokenBy (judgedBy o d)) 0 ≡ numberOfFault (judgedBy o d)
+by-kind none d = refl
+by-kind (some r) d = own (judged r d)
   where
     own : (v : Value) → cond (isBroken v) (brokenBy v) 0 ≡ numberOfFault v
     own (broken n) = refl
@@ -32,18 +32,17 @@ by-kind (some k) c d = own (judged k c d)
 
 kind-fault : (c : ℕ) (d : List ℕ) → cond (breaksKind kinds c d) (brokenBy (kinds .value c d)) 0 ≡ faultOf c d
 unfolding faultOf
-kind-fault c d = by-kind (kindOf c) c d
+kind-fault c d = by-kind (rowOf c) d
 
 -- no fault of a kind has number 0
-kind-sure : (o : Option Kind) (c : ℕ) (d : List ℕ) → cond (hasRow o) (isBroken (judgedBy o c d)) false ≡ true → brokenBy (judgedBy o c d) ≡ 0 → ⊥
+kind-sure : (o : Option Row) (d : List ℕ) → cond (hasRow (kindBy o)) (isBroken (judgedBy o d)) false ≡ true → brokenBy (judgedBy o d) ≡ 0 → ⊥
 unfolding judged
-kind-sure none c d q e = clash (cc)
-kind-sure (some k) c d q e = two (lengthFits k c (length d)) (valueFits k c d) q e
+kind-sure none d q e = clash (cc)
+kind-sure (some r) d q e = sure-of (fault r d) q e
   where
-    two : (a b : Bool) → isBroken (cond a (cond b (meaning k d) (broken 9)) (broken 8)) ≡ true → brokenBy (cond a (cond b (meaning k d) (broken 9)) (broken 8)) ≡ 0 → ⊥
-    two true true z y = clash (let x : isBroken (meaning k d) ≡ false = unbroken k d in cc)
-    two true false z y = omega arith
-    two false b z y = omega arith
+    sure-of : (n : ℕ) → isBroken (unless n (meaning (r .kind) d)) ≡ true → brokenBy (unless n (meaning (r .kind) d)) ≡ 0 → ⊥
+    sure-of zero z y = clash (let x : isBroken (meaning (r .kind) d) ≡ false = unbroken (r .kind) d in cc)
+    sure-of (suc n) z y = omega arith
 
 -- ---- The first rule that is broken
 
@@ -100,4 +99,4 @@ all-kept (x ∷ xs) seen r s e = go (x .breaks seen r) refl (all-kept xs seen r 
     go false q ih z = (q, ih z)
 
 pub sure : Sure (writerRules kinds)
-sure = (λ seen r q e. omega arith, (λ seen r q e. omega arith, (λ seen r q e. omega arith, (λ seen r q e. kind-sure (kindOf (r .tag)) (r .tag) (r .body) q e, tt))))
+sure = (λ seen r q e. omega arith, (λ seen r q e. omega arith, (λ seen r q e. omega arith, (λ seen r q e. kind-sure (rowOf (r .tag)) (r .body) q e, tt))))

@@ -6,7 +6,7 @@ use Prim.Native.Nat.{ℕ}
 use lib.ListN.{length, replicate}
 use Rattle.options.specs.Message.{Rec, cookie, options, endToEnd}
 use Rattle.options.specs.Reading.{parse, judge, items, overload, allFields, readMessage, pieces}
-use Rattle.options.specs.Kinds.{opaque, part, kinds, kindOf, lengthFits, valueFits, meaning, judged, trimmed, allText}
+use Rattle.options.specs.Kinds.{opaque, part, kinds, rowOf, valueFault, fault, meaning, judged, trimmed, allText}
 use Rattle.options.specs.SheetWalk.{recordsFrom, ruled}
 use Rattle.options.specs.Answers.{inPieces, known, Found, lookup, recordBytes, but52, given, furtherData, joinedRecords, sheetRecords, records, copy}
 use Rattle.options.specs.Writing.{splitUp, splitAll, optionBytes, fits, fieldBytes, inOptions, pastOptions, inFile, pastFile, inSname, pastSname, written, planFits, sheet, tryPlans, wrote, declined, writer}
@@ -26,7 +26,7 @@ too-long = refl
 
 -- with 1,024 bytes it takes 1,034: 11 in a field of 1,034, and written in one of 1,035
 no-room : writer kinds (43 ∷ 4 ∷ 0 ∷ replicate 1024 7) (replicate 1274 0) 0 ≡ declined 11 1274
-unfolding recordsFrom ruled sheet splitUp splitAll optionBytes fits fieldBytes inOptions pastOptions inFile pastFile inSname pastSname written planFits tryPlans writer kindOf lengthFits valueFits meaning judged trimmed allText
+unfolding recordsFrom ruled sheet splitUp splitAll optionBytes fits fieldBytes inOptions pastOptions inFile pastFile inSname pastSname written planFits tryPlans writer rowOf valueFault fault meaning judged trimmed allText
 no-room = refl
 
 -- 257 bytes: the first piece in options, behind 52; the last, of two bytes, in file
@@ -37,12 +37,12 @@ abbrev left : List ℕ
 left = replicate 108 0 ++ ((43 ∷ 2 ∷ 9 ∷ 8 ∷ 255 ∷ replicate 123 0) ++ (cookie ++ (52 ∷ 1 ∷ 1 ∷ 43 ∷ 255 ∷ (replicate 255 7 ++ (255 ∷ [])))))
 
 in-two-fields : writer kinds (43 ∷ 1 ∷ 1 ∷ long) (replicate 501 0) 1 ≡ wrote 1 left
-unfolding recordsFrom ruled sheet splitUp splitAll optionBytes fits fieldBytes inOptions pastOptions inFile pastFile inSname pastSname written planFits tryPlans writer kindOf lengthFits valueFits meaning judged trimmed allText
+unfolding recordsFrom ruled sheet splitUp splitAll optionBytes fits fieldBytes inOptions pastOptions inFile pastFile inSname pastSname written planFits tryPlans writer rowOf valueFault fault meaning judged trimmed allText
 in-two-fields = refl
 
 -- the answer names the first piece, says that there are several, and judges the joined bytes
 looked-up : lookup kinds (λ c. true) left 43 ≡ Found (record { field = options; offset = 3; wholeness = inPieces 257 }) (known (part opaque 257))
-unfolding parse judge items overload allFields readMessage pieces endToEnd lookup kindOf lengthFits valueFits meaning judged trimmed allText
+unfolding parse judge items overload allFields readMessage pieces endToEnd lookup rowOf valueFault fault meaning judged trimmed allText
 looked-up = refl
 
 copied : copy left 43 (replicate 258 170) ≡ record { answer = given 257; buffer = long ++ (170 ∷ []) }

@@ -22,19 +22,19 @@ text-len-requires c κs = search needs
 loop-holds : tie.Need-loop-holds Inv-loop μ-loop
 loop-holds c = (c .text-len .ensures, (omega arith, rw (c .text-len .ensures)))
 
-shared-slice-read-from-one : tie.Need-shared-slice-read-from-one Inv-loop μ-loop
-shared-slice-read-from-one c =
+shared-slice-read-from-to : tie.Need-shared-slice-read-from-to Inv-loop μ-loop
+shared-slice-read-from-to c =
     let l = c .before .before in
     omega (arith, l .loop .inv .0, trimmed-within (l .before .before .before .args .t .now))
 
-from-one-requires : tie.Need-from-one-requires Inv-loop μ-loop
-from-one-requires c κs = search needs
+from-to-requires : tie.Need-from-to-requires Inv-loop μ-loop
+from-to-requires c κs = search needs
 
 returns : tie.Need-returns Inv-loop μ-loop
 returns c =
     let l = c .before .before .before .before in
     let t = l .before .before .before .args .t .now in
-    sym (text-stop t (l .before .text-len .result) (l .loop .i) (omega arith) (omega (arith, l .loop .inv .0, trimmed-within t)) (sym (c .before .from-one .ensures) ∙ not-true _ (c .if1 .taken))) ∙ l .loop .inv .1 .1
+    sym (text-stop t (l .before .text-len .result) (l .loop .i) (omega arith) (omega (arith, l .loop .inv .0, trimmed-within t)) (sym (c .before .from-to .ensures) ∙ not-true _ (c .if1 .taken))) ∙ l .loop .inv .1 .1
 
 add-i : tie.Need-add-i Inv-loop μ-loop
 add-i c = search needs
@@ -49,7 +49,7 @@ loop-again c =
       l .loop .inv .0,
       (
         omega arith,
-        sym (text-next t (l .before .text-len .result) (l .loop .i) (omega arith) (omega (arith, l .loop .inv .0, trimmed-within t)) (sym (c .before .from-one .ensures) ∙ not-false _ (c .if1 .left))) ∙ l .loop .inv .1 .1,
+        sym (text-next t (l .before .text-len .result) (l .loop .i) (omega arith) (omega (arith, l .loop .inv .0, trimmed-within t)) (sym (c .before .from-to .ensures) ∙ not-false _ (c .if1 .left))) ∙ l .loop .inv .1 .1,
       ),
     )
 
@@ -67,8 +67,8 @@ text-fits-spec =
     μ-loop
     text-len-requires
     loop-holds
-    shared-slice-read-from-one
-    from-one-requires
+    shared-slice-read-from-to
+    from-to-requires
     returns
     add-i
     loop-less

@@ -6,11 +6,12 @@ use Prim.Native.Nat.{ℕ}
 use lib.ListN.{length, take}
 use lib.Seq.{length-take-le, getD-take}
 use Rattle.options.specs.Answers as asked
-use Rattle.kinds.specs.Numbers.{kindAt, numberFits}
+use Rattle.kinds.specs.Numbers.{rowAt, numberFault}
 use Rattle.cursor.specs.Cursor.{firstPosition}
 use Rattle.gather.specs.Joined.{joinedFrom}
 use Rattle.lookup.specs.Found.{judgedOf}
-use Rattle.lookup.proofs.Laws.{Front, gathered, by-first-four}
+use Rattle.lookup.proofs.Laws.{Front, gathered}
+use Rattle.lookup.proofs.Verdicts.{by-first-four}
 use Rattle.lookup.proofs.by_first_four.Statement.{statement}
 use Rattle.lookup.proofs.by_first_four.Tie as tie
 
@@ -44,9 +45,9 @@ returns c =
     let a = s .args in
     let d = joinedFrom (a .w .over) (a .m .now) firstPosition (a .code) in
     c .judge-head .ensures
-    ∙ ap (λ (h : List ℕ). asked.known (judgedOf (kindAt (a .k)) (a .code) (a .w .whole) (numberFits (kindAt (a .k)) (a .code) h) h)) (front g .front)
-    ∙ ap (λ (n : ℕ). asked.known (judgedOf (kindAt (a .k)) (a .code) n (numberFits (kindAt (a .k)) (a .code) (take 4 d)) (take 4 d))) (s .pre .1 .whole)
-    ∙ ap asked.known (by-first-four d (take 4 d) (λ i h. getD-take 4 d i 0 h) (kindAt (a .k)) (a .code) (s .pre .0))
+    ∙ ap (λ (h : List ℕ). asked.known (judgedOf (a .row) (a .w .whole) (numberFault (rowAt (a .row)) h) h)) (front g .front)
+    ∙ ap (λ (n : ℕ). asked.known (judgedOf (a .row) n (numberFault (rowAt (a .row)) (take 4 d)) (take 4 d))) (s .pre .1 .whole)
+    ∙ ap asked.known (by-first-four d (take 4 d) (λ i h. getD-take 4 d i 0 h) (a .row) (s .pre .0))
 
 pub by-first-four-spec : {M : Type 1} → statement M
 by-first-four-spec =

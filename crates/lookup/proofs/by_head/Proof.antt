@@ -5,9 +5,9 @@ use mathlib.Core.Path.{ap, ap₂, _∙_}
 use mathlib.Core.List.{List, _++_}
 use Prim.Native.Nat.{ℕ}
 use lib.ListN.{length}
-use Rattle.options.specs.Kinds.{judged}
+use Rattle.options.specs.Kinds.{judgedBy}
 use Rattle.options.specs.Answers as asked
-use Rattle.kinds.specs.Numbers.{kindAt}
+use Rattle.kinds.specs.Numbers.{rowAt}
 use Rattle.lookup.proofs.by_head.Statement.{statement}
 use Rattle.lookup.proofs.by_head.Tie as tie
 
@@ -34,7 +34,7 @@ returns c =
     let e = p .piece .ensures in
     let f = q .piece2 .ensures in
     c .judge-both .ensures
-    ∙ ap (λ (l : List ℕ). asked.known (judged (kindAt (s .args .k)) (s .args .code) l))
+    ∙ ap (λ (l : List ℕ). asked.known (judgedBy (rowAt (s .args .row)) l))
     (ap₂ (λ (x y : List ℕ). x ++ y) e f ∙ s .pre .1 .both (omega (arith, ap length e, ap length f, c .before .if1 .taken)))
 
 by-first-four-requires : tie.Need-by-first-four-requires

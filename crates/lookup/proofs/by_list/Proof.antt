@@ -7,11 +7,12 @@ use Prim.Native.Nat.{ℕ}
 use lib.ListN.{length, take, length-replicate}
 use lib.Seq.{length-take-le, take-all}
 use Rattle.options.specs.Answers as asked
-use Rattle.kinds.specs.Numbers.{kindAt, listFits}
+use Rattle.kinds.specs.Numbers.{rowAt, listFault}
 use Rattle.cursor.specs.Cursor.{firstPosition}
 use Rattle.gather.specs.Joined.{joinedFrom}
 use Rattle.lookup.specs.Found.{judgedOf}
-use Rattle.lookup.proofs.Laws.{Front, gathered, by-all}
+use Rattle.lookup.proofs.Laws.{Front, gathered}
+use Rattle.lookup.proofs.Verdicts.{by-all}
 use Rattle.lookup.proofs.by_list.Statement.{statement}
 use Rattle.lookup.proofs.by_list.Tie as tie
 
@@ -52,9 +53,9 @@ returns c =
     let a = s .args in
     let d = joinedFrom (a .w .over) (a .m .now) firstPosition (a .code) in
     c .judge-list .ensures
-    ∙ ap (λ (h : List ℕ). asked.known (judgedOf (kindAt (a .k)) (a .code) (g .put-pieces .result) (listFits (kindAt (a .k)) (a .code) h) h)) (front g .front)
-    ∙ ap (λ (n : ℕ). asked.known (judgedOf (kindAt (a .k)) (a .code) n (listFits (kindAt (a .k)) (a .code) d) d)) (count g)
-    ∙ ap asked.known (by-all d (kindAt (a .k)) (a .code) (s .pre .0))
+    ∙ ap (λ (h : List ℕ). asked.known (judgedOf (a .row) (g .put-pieces .result) (listFault (rowAt (a .row)) h) h)) (front g .front)
+    ∙ ap (λ (n : ℕ). asked.known (judgedOf (a .row) n (listFault (rowAt (a .row)) d) d)) (count g)
+    ∙ ap asked.known (by-all d (a .row) (s .pre .0))
 
 pub by-list-spec : {M : Type 1} → statement M
 by-list-spec =

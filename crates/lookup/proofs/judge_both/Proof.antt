@@ -6,9 +6,9 @@ use mathlib.Core.List.{List, [], _∷_, _++_}
 use Prim.Native.Nat.{ℕ}
 use lib.ListN.{length-append}
 use Rattle.options.specs.Answers as asked
-use Rattle.kinds.specs.Numbers.{kindAt, numberFits}
+use Rattle.kinds.specs.Numbers.{rowAt, numberFault}
 use Rattle.lookup.specs.Found.{judgedOf}
-use Rattle.lookup.proofs.Laws.{by-first-four}
+use Rattle.lookup.proofs.Verdicts.{by-first-four}
 use Rattle.lookup.proofs.Halves.{four-bytes}
 use Rattle.lookup.proofs.judge_both.Statement.{statement}
 use Rattle.lookup.proofs.judge_both.Tie as tie
@@ -45,8 +45,8 @@ returns c =
     let d : List ℕ = a .a .now ++ a .b .now in
     let h : List ℕ = p .byte-of-both .result ∷ q .byte-of-both2 .result ∷ r .byte-of-both3 .result ∷ t .byte-of-both4 .result ∷ [] in
     c .judge-head .ensures
-    ∙ ap (λ (n : ℕ). asked.known (judgedOf (kindAt (a .k)) (a .code) n (numberFits (kindAt (a .k)) (a .code) h) h)) (sym (length-append (a .a .now) (a .b .now)))
-    ∙ ap asked.known (by-first-four d h (four-bytes d (p .byte-of-both .result) (q .byte-of-both2 .result) (r .byte-of-both3 .result) (t .byte-of-both4 .result) (p .byte-of-both .ensures) (q .byte-of-both2 .ensures) (r .byte-of-both3 .ensures) (t .byte-of-both4 .ensures)) (kindAt (a .k)) (a .code) (s .pre))
+    ∙ ap (λ (n : ℕ). asked.known (judgedOf (a .row) n (numberFault (rowAt (a .row)) h) h)) (sym (length-append (a .a .now) (a .b .now)))
+    ∙ ap asked.known (by-first-four d h (four-bytes d (p .byte-of-both .result) (q .byte-of-both2 .result) (r .byte-of-both3 .result) (t .byte-of-both4 .result) (p .byte-of-both .ensures) (q .byte-of-both2 .ensures) (r .byte-of-both3 .ensures) (t .byte-of-both4 .ensures)) (a .row) (s .pre))
 
 pub judge-both-spec : {M : Type 1} → statement M
 judge-both-spec = tie.close (tie.spec byte-of-both-requires byte-of-both-requires-2 byte-of-both-requires-3 byte-of-both-requires-4 add-judge-head slice-aggregate-judge-head judge-head-requires returns)

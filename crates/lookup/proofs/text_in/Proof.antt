@@ -2,27 +2,22 @@
 use borrow.Author.Needs.{needs}
 use native.Mathlib.Omega.{arith}
 use native.Mathlib.Nat.{add-sub-cancel-left}
-use mathlib.Core.Path.{_≡_, sym, _∙_}
+use mathlib.Core.Path.{_≡_, sym, ap, _∙_}
 use mathlib.Core.List.{List}
-use mathlib.Core.Bool.{true}
-use mathlib.Core.Option.{some}
 use Prim.Native.Nat.{ℕ}
-use borrow.Author.Tests.{not-true, not-false, eqb-true, eqb-false}
+use lib.ListN.{take, drop}
+use borrow.Author.Tests.{not-true, not-false, eqb-false}
 use Rattle.options.specs.Message.{Opt}
 use Rattle.options.specs.Reading.{pieces}
 use Rattle.options.specs.CodeSet.{marked}
-use Rattle.options.specs.Kinds.{kindOf, text}
-use Rattle.kinds.specs.Numbers.{kindNumber}
-use Rattle.kinds.proofs.Numbering.{row}
+use Rattle.kinds.specs.Numbers.{kindNumbered, faultNumbered}
 use Rattle.message.proofs.Callers.{all-bytes}
 use Rattle.message.proofs.Callers.{ScanAccepted}
-use Rattle.lookup.proofs.Laws.{last-short, One, one-met, met-accepted, text-absent, text-several, text-no-kind, text-not-marked, text-not-fit, text-here}
+use Rattle.lookup.specs.Found.{knownRow}
+use Rattle.lookup.proofs.Laws.{last-short, One, one-met, met-accepted, text-absent, text-several, text-not-kind, text-broken, text-here}
+use Rattle.lookup.proofs.Verdicts.{other-row, unmarked-row, known-text}
 use Rattle.lookup.proofs.text_in.Statement.{statement}
 use Rattle.lookup.proofs.text_in.Tie as tie
-
--- kind 10 is text
-is-text : (c : ℕ) → kindNumber (kindOf c) ≡ 10 → kindOf c ≡ some text
-is-text c e = row (kindOf c) 10 (sym e) (λ z. omega (arith, z))
 
 -- the code was met
 told : (e : tie.Else1) → let a = e .before .before .args in (os : List Opt) × ScanAccepted (a .code) (a .m .now) (a .w) os
@@ -69,7 +64,8 @@ returns-3 c =
     let e = k .before in
     let f = e .before .before in
     let s = f .before .before in
-    text-no-kind (s .args .m .now) (s .args .code) (s .pre .0) (s .pre .1) (s .args .w) (told f .0) (told f .1) (marked (s .args .set)) (f .if1 .left) (e .if2 .left) (eqb-false _ _ (sym (k .is-text .ensures) ∙ not-true (k .is-text .result) (c .if3 .taken)))
+    text-not-kind (s .args .m .now) (s .args .code) (s .pre .0) (s .pre .1) (s .args .w) (told f .0) (told f .1) (marked (s .args .set)) (f .if1 .left) (e .if2 .left)
+    (other-row (marked (s .args .set)) (s .args .code) (eqb-false _ _ (sym (k .is-text .ensures) ∙ not-true (k .is-text .result) (c .if3 .taken))))
 
 contains-requires : tie.Need-contains-requires
 contains-requires c κs = search needs
@@ -80,17 +76,17 @@ returns-4 c =
     let e = q .before .before .before in
     let f = e .before .before in
     let s = f .before .before in
-    text-not-marked (s .args .m .now) (s .args .code) (s .pre .0) (s .pre .1) (s .args .w) (told f .0) (told f .1) (marked (s .args .set)) (f .if1 .left) (e .if2 .left) (sym (q .contains .ensures) ∙ not-true (q .contains .result) (c .if4 .taken))
+    text-not-kind (s .args .m .now) (s .args .code) (s .pre .0) (s .pre .1) (s .args .w) (told f .0) (told f .1) (marked (s .args .set)) (f .if1 .left) (e .if2 .left)
+    (unmarked-row (marked (s .args .set)) (s .args .code) (sym (q .contains .ensures) ∙ not-true (q .contains .result) (c .if4 .taken)))
 
 -- the code is a text's, and known
-of-text : (h : tie.Else4) → kindOf (h .before .before .before .before .before .before .before .before .args .code) ≡ some text
-of-text h =
-    let t = h .before .before in
+text-row-of : (h : tie.Else4) → let a = h .before .before .before .before .before .before .before .before .args in knownRow (marked (a .set)) (a .code) ≡ 10
+text-row-of h =
+    let q = h .before in
+    let t = q .before in
     let k = t .before in
-    is-text _ (eqb-true _ _ (sym (k .is-text .ensures) ∙ not-false (k .is-text .result) (t .if3 .left)))
-
-of-known : (h : tie.Else4) → let a = h .before .before .before .before .before .before .before .before .args in marked (a .set) (a .code) ≡ true
-of-known h = let q = h .before in sym (q .contains .ensures) ∙ not-false (q .contains .result) (h .if4 .left)
+    let a = k .before .before .before .before .before .args in
+    known-text (marked (a .set)) (a .code) (omega arith) (sym (q .contains .ensures) ∙ not-false (q .contains .result) (h .if4 .left)) (sym (k .is-text .ensures) ∙ not-false (k .is-text .result) (t .if3 .left))
 
 add-end : tie.Need-add-end
 add-end c =
@@ -108,8 +104,16 @@ part-t-end c =
     let q = c .before .before in
     omega (arith, one (q .before .before .before) .within)
 
-text-fits-requires : tie.Need-text-fits-requires
-text-fits-requires c κs = search needs
+fault-in-requires : tie.Need-fault-in-requires
+fault-in-requires c κs = search needs
+
+-- the fault, by the row of the code
+faulted : (x : tie.After-fault-in) → let a = x .before .before .before .before .before .before .before .before .before .before .before .args in
+    x .fault-in .result ≡ faultNumbered (knownRow (marked (a .set)) (a .code)) (take (a .w .whole) (drop (a .w .start) (a .m .now)))
+faulted x =
+    let h = x .before .before .before in
+    let a = h .before .before .before .before .before .before .before .before .args in
+    rw add-sub-cancel-left at (x .fault-in .ensures) ∙ ap (λ (n : ℕ). faultNumbered n (take (a .w .whole) (drop (a .w .start) (a .m .now)))) (sym (text-row-of h))
 
 returns-5 : tie.Need-returns-5
 returns-5 c =
@@ -118,8 +122,7 @@ returns-5 c =
     let e = h .before .before .before .before in
     let f = e .before .before in
     let s = f .before .before in
-    text-not-fit (s .args .m .now) (s .args .code) (s .pre .0) (s .pre .1) (s .args .w) (told f .0) (told f .1) (marked (s .args .set)) (f .if1 .left) (e .if2 .left) (of-text h) (of-known h)
-    (rw add-sub-cancel-left at (sym (x .text-fits .ensures) ∙ not-true (x .text-fits .result) (c .if5 .taken)))
+    text-broken (s .args .m .now) (s .args .code) (s .pre .0) (s .pre .1) (s .args .w) (told f .0) (told f .1) (marked (s .args .set)) (f .if1 .left) (e .if2 .left) (λ z. c .if5 .taken (faulted x ∙ z))
 
 text-len-requires : tie.Need-text-len-requires
 text-len-requires c κs = search needs
@@ -137,8 +140,8 @@ returns-6 c =
     let f = e .before .before in
     let s = f .before .before in
     rw (c .clip .ensures, l .text-len .ensures, add-sub-cancel-left)
-    (text-here (s .args .m .now) (s .args .code) (s .pre .0) (s .pre .1) (s .args .w) (told f .0) (told f .1) (marked (s .args .set)) (f .if1 .left) (e .if2 .left) (of-text h) (of-known h)
-    (rw add-sub-cancel-left at (sym (x .text-fits .ensures) ∙ not-false (x .text-fits .result) (y .if5 .left))))
+    (text-here (s .args .m .now) (s .args .code) (s .pre .0) (s .pre .1) (s .args .w) (told f .0) (told f .1) (marked (s .args .set)) (f .if1 .left) (e .if2 .left)
+    (ap kindNumbered (text-row-of h)) (sym (faulted x) ∙ y .if5 .left))
 
 pub text-in-spec : {M : Type 1} → statement M
 text-in-spec =
@@ -155,7 +158,7 @@ text-in-spec =
     sub-t
     part-t-start
     part-t-end
-    text-fits-requires
+    fault-in-requires
     returns-5
     text-len-requires
     clip-requires

@@ -1,0 +1,3 @@
+-- What the row of a code is, as a number.
+pub mod Rows
+pub mod Words

@@ -1,0 +1,128 @@
+// The row of a code in the table of kinds (document 01, The kinds, by code), decided from ranges of codes (document 02, request 04).
+ghost use mathlib.Core.Path.{_≡_};
+ghost use Prim.Native.Nat.{_<_, _≤_, _%_};
+ghost use lib.Dec.{eqb};
+ghost use Rattle.ranges.specs.Rows.{rowNumber};
+ghost use Rattle.ranges.specs.Words.{rangeRow, GivesRowOf, inRanges};
+
+// No code from 77 on has a row.
+const LAST: u8 = 76;
+
+// Eight ranges of codes, one behind the other, or fewer: the first code of each, and the number of the row that its codes have. A byte is a range, the lowest
+// byte the first; one that is not used begins at 128.
+struct Ranges {
+    firsts: u64,
+    rows: u64,
+}
+
+// The ranges with the code c, of those below 37.
+fn below_37(c: u8) -> Ranges
+    requires { ⌜ c < 37 ⌝ }
+    ensures { λ r. ⌜ GivesRowOf r c ⌝ }
+{
+    if c < 17 {
+        // 0; 1; 2; 3 to 11; 12; 13; 14 and 15; 16
+        return Ranges {
+            firsts: 0x100e_0d0c_0302_0100,
+            rows: 0x010a_060a_0209_0100,
+        };
+    }
+    if c < 27 {
+        // 17 and 18; 19 and 20; 21; 22; 23; 24; 25; 26
+        return Ranges {
+            firsts: 0x1a19_1817_1615_1311,
+            rows: 0x2607_0805_1603_040a,
+        };
+    }
+    // 27; 28; 29 to 31; 32; 33; 34; 35; 36
+    Ranges {
+        firsts: 0x2423_2221_201d_1c1b,
+        rows: 0x0408_0413_0104_0104,
+    }
+}
+
+// The same, of those from 37 on.
+fn from_37(c: u8) -> Ranges
+    requires { ⌜ (37 ≤ c) × (c < 77) ⌝ }
+    ensures { λ r. ⌜ GivesRowOf r c ⌝ }
+{
+    if c < 47 {
+        // 37; 38; 39; 40; 41 and 42; 43; 44 and 45; 46
+        return Ranges {
+            firsts: 0x2e2c_2b29_2827_2625,
+            rows: 0x1502_0b02_0a04_0805,
+        };
+    }
+    if c < 56 {
+        // 47; 48 and 49; 50; 51; 52; 53; 54; 55
+        return Ranges {
+            firsts: 0x3736_3534_3332_302f,
+            rows: 0x0b01_3525_0801_020b,
+        };
+    }
+    if c < 66 {
+        // 56; 57; 58 and 59; 60; 61; 62 and 63; 64; 65
+        return Ranges {
+            firsts: 0x4140_3e3d_3c3a_3938,
+            rows: 0x020a_001b_0b08_160a,
+        };
+    }
+    // 66 and 67; 68; 69 to 76
+    Ranges {
+        firsts: 0x8080_8080_8045_4442,
+        rows: 0x0000_0000_0002_120a,
+    }
+}
+
+fn ranges_with(c: u8) -> Ranges
+    requires { ⌜ c < 77 ⌝ }
+    ensures { λ r. ⌜ GivesRowOf r c ⌝ }
+{
+    if c < 37 {
+        return below_37(c);
+    }
+    from_37(c)
+}
+
+// The row of the last range that begins at c or before. All eight are compared at once: in each byte the high bit stays where c is not below the first code.
+fn row_in(firsts: u64, rows: u64, c: u8) -> u8
+    requires { ⌜ (c < 128) × (firsts ≤ 9259542123273814144) ⌝ }
+    ensures { λ r. ⌜ r ≡ rangeRow firsts rows c ⌝ }
+{
+    let past = (c as u64 + 128) * 0x0101_0101_0101_0101 - firsts;
+    let begun = past & 0x8080_8080_8080_8080;
+    let above = u64::leading_zeros(begun) % 64 / 8;
+    ((rows >> (56 - above * 8)) % 64) as u8
+}
+
+// The number of the row of the code c: that of its kind, and 16 for each row of that kind before it; 0 for none.
+pub fn row(c: u8) -> u8
+    ensures { λ r. ⌜ r ≡ rowNumber c ⌝ }
+{
+    if LAST < c {
+        return 0;
+    }
+    let r = ranges_with(c);
+    row_in(r.firsts, r.rows, c)
+}
+
+// Whether the code c is of a text (kind 10), by its ranges alone: 12; 14 and 15; 17 and 18; 40; 56; 64; 66 and 67. A range has begun and not ended.
+pub fn is_text(c: u8) -> bool
+    ensures { λ r. ⌜ r ≡ eqb (rowNumber c % 16) 10 ⌝ }
+{
+    if LAST < c {
+        return false;
+    }
+    in_ranges(0x8042_4038_2811_0e0c, 0x8044_4139_2913_100d, c)
+}
+
+// Whether c is in one of the ranges that begin at the bytes of `firsts` and end before those of `ends`.
+fn in_ranges(firsts: u64, ends: u64, c: u8) -> bool
+    requires { ⌜ (c < 128) × ((firsts ≤ 9259542123273814144) × (ends ≤ 9259542123273814144)) ⌝ }
+    ensures { λ r. ⌜ r ≡ inRanges firsts ends c ⌝ }
+{
+    let places = (c as u64 + 128) * 0x0101_0101_0101_0101;
+    let begun = (places - firsts) & 0x8080_8080_8080_8080;
+    let ended = (places - ends) & 0x8080_8080_8080_8080;
+    begun != ended
+}

@@ -106,7 +106,7 @@ usedByItems (x ∷ xs) = 2 + length (x .item .body) + usedByItems xs
 -- what is told of them: an item that runs past has the number that an option has
 abbrev pub toldItems : Items → Scanned
 toldItems (past i) = refusedAt 4 i
-toldItems (listed xs) = record { start = 0; whole = 0; pieces = 0; used = usedByItems xs; count = length xs; place = 0; over = 0; number = 0 }
+toldItems (listed xs) = record { start = 0; whole = 0; last = 0; used = usedByItems xs; count = length xs; place = 0; over = 0; number = 0 }
 
 -- the watched codes below 64: pads, and option 52 in a message
 abbrev pub lowWatched : Bool → ℕ

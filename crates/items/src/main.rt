@@ -60,6 +60,7 @@ fn back(sheet: &[u8], bytes: &[u8]) {
 fn read(bytes: &[u8], out: &mut [u8]) {
     let g = dhcpopt_reader::dhcpopt_vendor_records(bytes, out);
     shown(g, out);
+    word(b"-\n");
 }
 
 fn write(sheet: &[u8], out: &mut [u8]) {
@@ -70,20 +71,20 @@ fn write(sheet: &[u8], out: &mut [u8]) {
     if given {
         back(sheet, part(out, 0, size));
     }
+    word(b"-\n");
 }
 
 // The lines of one case: 0 reads items, any other call writes them.
 fn case(call: u8, bytes: &[u8], out: &mut [u8]) {
     if call == 0 {
         read(bytes, out);
-    } else {
-        write(bytes, out);
+        return;
     }
-    word(b"-\n");
+    write(bytes, out);
 }
 
 // Reads as many bytes as `bytes` has and prints their lines.
-fn body(call: u8, bytes: &mut [u8], out: &mut [u8], first: u8) {
+fn body(bytes: &mut [u8], out: &mut [u8], first: u8, call: u8) {
     let n = io::read_full(0, bytes);
     fill(out, first);
     case(call, &bytes[..n], out);
@@ -105,7 +106,7 @@ fn next() -> bool {
     }
     let mut out = [0u8; 5000];
     let mut bytes = [0u8; 5000];
-    body(head[0], &mut bytes[..size], &mut out[..room], head[3]);
+    body(&mut bytes[..size], &mut out[..room], head[3], head[0]);
     true
 }
 

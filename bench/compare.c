@@ -2,6 +2,7 @@
  * compare messages FILE...   makes every reading call on each message by the library and in plain C, and stops where they differ;
  *                            looks up three codes also with any byte changed
  * compare sheets FILE...     writes each sheet with both: every buffer size, every permission, cut off anywhere, any byte changed
+ * compare vendor FILE...     reads each as items with both, and writes it as records of items: every room, cut off anywhere, any byte changed
  */
 #include "input.h"
 #include "dhcpopt.h"
@@ -137,15 +138,50 @@ static void compare_sheet(const char *name)
         compare_write(name, n, LONGEST, 3);
 }
 
+/* Both read the first n bytes as items, and write them as records of items. */
+static void compare_items(const char *name, size_t n, size_t room)
+{
+    static uint8_t a[ROOM], b[ROOM];
+    memset(a, UNTOUCHED, ROOM);
+    memset(b, UNTOUCHED, ROOM);
+    plain_filled p = plain_vendor_records(in, n, a, room);
+    dhcpopt_filled l = dhcpopt_vendor_records(in, n, b, room);
+    if (p.refusal != l.refusal || p.size != l.size || p.place != l.place || memcmp(a, b, ROOM) != 0)
+        fail("items read differ", name);
+    p = plain_vendor_write(in, n, a, room);
+    l = dhcpopt_vendor_write(in, n, b, room);
+    if (p.refusal != l.refusal || p.size != l.size || p.place != l.place || memcmp(a, b, ROOM) != 0)
+        fail("items written differ", name);
+}
+
+static void compare_vendor(const char *name)
+{
+    for (size_t room = 0; room <= 2 * size; room++)
+        compare_items(name, size, room);
+    for (size_t n = 0; n <= size; n++)
+        compare_items(name, n, ROOM);
+    for (size_t i = 0; i < size; i++) {
+        uint8_t was = in[i];
+        for (unsigned x = 0; x < 256; x++) {
+            in[i] = (uint8_t)x;
+            compare_items(name, size, ROOM);
+            compare_items(name, size, 255);
+        }
+        in[i] = was;
+    }
+}
+
 int main(int argc, char **argv)
 {
     if (argc < 3)
-        fail("usage", "compare messages|sheets FILE...");
+        fail("usage", "compare messages|sheets|vendor FILE...");
     for (int i = 2; i < argc; i++) {
         memset(in, 0, sizeof in);
         size = take(argv[i], in, sizeof in);
         if (strcmp(argv[1], "sheets") == 0)
             compare_sheet(argv[i]);
+        else if (strcmp(argv[1], "vendor") == 0)
+            compare_vendor(argv[i]);
         else {
             compare_message(argv[i]);
             compare_changed(argv[i]);

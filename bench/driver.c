@@ -2,7 +2,8 @@
  * driver plain|rust|library CALL FILE [NUMBER...]   makes one call, for `run` to count
  * driver time CALL FILE [NUMBER...]                 prints the nanoseconds of a call: plain C's, plain Rust's and the library's
  *
- * FILE is a message, or the sheet to write. The numbers: the code for lookup, data and copy; the buffer's size and the permission for write.
+ * FILE is a message, the sheet to write, or for vendor_records the data of an option 43.
+ * The numbers: the code for lookup, data and copy; the buffer's size and the permission for write.
  * The library's side is left out unless LIBRARY is defined, Rust's unless RUST is.
  */
 #define _POSIX_C_SOURCE 199309L
@@ -30,6 +31,8 @@ static bool copy_plain(void) { return plain_copy(in, size, code, out, ROOM).refu
 static bool present_plain(void) { return plain_present(in, size).refusal == 0; }
 static bool records_plain(void) { return plain_records(in, size, out, ROOM).refusal == 0; }
 static bool write_plain(void) { return plain_write(in, size, out, room, permission).refusal == 0; }
+static bool vendor_records_plain(void) { return plain_vendor_records(in, size, out, ROOM).refusal == 0; }
+static bool vendor_write_plain(void) { return plain_vendor_write(in, size, out, ROOM).refusal == 0; }
 
 #ifdef LIBRARY
 #define LIBRARY_SIDE(call) call##_library
@@ -39,6 +42,8 @@ static bool copy_library(void) { return dhcpopt_copy(in, size, code, out, ROOM).
 static bool present_library(void) { return dhcpopt_present(in, size).refusal == 0; }
 static bool records_library(void) { return dhcpopt_records(in, size, out, ROOM).refusal == 0; }
 static bool write_library(void) { return dhcpopt_write(in, size, out, room, permission).refusal == 0; }
+static bool vendor_records_library(void) { return dhcpopt_vendor_records(in, size, out, ROOM).refusal == 0; }
+static bool vendor_write_library(void) { return dhcpopt_vendor_write(in, size, out, ROOM).refusal == 0; }
 #else
 #define LIBRARY_SIDE(call) NULL
 #endif
@@ -51,12 +56,16 @@ dhcpopt_filled independent_copy(const uint8_t *m, size_t n, uint8_t code, uint8_
 dhcpopt_codes independent_present(const uint8_t *m, size_t n);
 dhcpopt_filled independent_records(const uint8_t *m, size_t n, uint8_t *out, size_t room);
 dhcpopt_wrote independent_write(const uint8_t *sheet, size_t n, uint8_t *m, size_t room, uint8_t permission);
+dhcpopt_filled independent_vendor_records(const uint8_t *bytes, size_t n, uint8_t *out, size_t room);
+dhcpopt_filled independent_vendor_write(const uint8_t *sheet, size_t n, uint8_t *out, size_t room);
 static bool lookup_rust(void) { return independent_lookup(in, size, every[0], every[1], every[2], every[3], code).refusal == 0; }
 static bool data_rust(void) { return independent_data(in, size, code).length > 0; }
 static bool copy_rust(void) { return independent_copy(in, size, code, out, ROOM).refusal == 0; }
 static bool present_rust(void) { return independent_present(in, size).refusal == 0; }
 static bool records_rust(void) { return independent_records(in, size, out, ROOM).refusal == 0; }
 static bool write_rust(void) { return independent_write(in, size, out, room, permission).refusal == 0; }
+static bool vendor_records_rust(void) { return independent_vendor_records(in, size, out, ROOM).refusal == 0; }
+static bool vendor_write_rust(void) { return independent_vendor_write(in, size, out, ROOM).refusal == 0; }
 #else
 #define RUST_SIDE(call) NULL
 #endif
@@ -69,7 +78,8 @@ typedef struct {
 } call_sides;
 
 static const char *const names[3] = {"plain", "rust", "library"};
-static const call_sides calls[] = {SIDES(lookup), SIDES(data), SIDES(copy), SIDES(present), SIDES(records), SIDES(write)};
+static const call_sides calls[] = {SIDES(lookup), SIDES(data), SIDES(copy), SIDES(present), SIDES(records), SIDES(write),
+                                   SIDES(vendor_records), SIDES(vendor_write)};
 
 static const call_sides *find(const char *name)
 {

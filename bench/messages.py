@@ -1,6 +1,6 @@
 #!/usr/bin/env python3
 """
-messages.py                 writes the measured messages and sheets to messages/*.bin and messages/*.sheet
+messages.py                 writes the measured messages, sheets and vendor information to messages/*.bin, *.sheet, *.vendor and *.records
 messages.py growth FOLDER   writes those of 10 to 100 options that `run growth` measures
 """
 
@@ -174,6 +174,21 @@ def sheetover():
     return settings(b"boot.clinic.example", b"images/" + b"fridge-meter/" * 3 + b"v2.bin", bytes(range(1, 41)))
 
 
+def probes():
+    """Thirty probe numbers of 4 to 8 bytes, as code and data; as items they take 240 bytes."""
+    return [(1 + k % 12, bytes((7 * k + i) % 256 for i in range((4, 6, 8, 5, 7)[k % 5]))) for k in range(30)]
+
+
+def items():
+    """The probe numbers inside an option 43."""
+    return b"".join(option(c, d) for c, d in probes())
+
+
+def item_records():
+    """The same as records."""
+    return b"".join(record(c, d) for c, d in probes())
+
+
 def growth(n):
     """A message and a sheet of n options of 12 bytes each, codes without a row; in the message 51 stands behind them."""
     codes = range(100, 100 + n)
@@ -209,5 +224,7 @@ else:
             ("sheetover.sheet", sheetover()),
             ("sheetlong.sheet", sheetlong()),
             ("eight.sheet", eight()),
+            ("probes.vendor", items()),
+            ("probes.records", item_records()),
         ],
     )

@@ -1,4 +1,4 @@
-/* The reader and writer of document 01, with requests 01 to 03 of document 02, in plain C: the measure for the library's calls. */
+/* The reader and writer of document 01, with requests 01 to 05 of document 02, in plain C: the measure for the library's calls. */
 #ifndef PLAIN_H
 #define PLAIN_H
 
@@ -70,5 +70,7 @@ plain_codes plain_present(const uint8_t *m, size_t n);
 plain_filled plain_records(const uint8_t *m, size_t n, uint8_t *out, size_t room);
 size_t plain_list(const uint8_t *m, size_t n, plain_piece *out); /* the pieces of an accepted message, for check.c; how many */
 plain_wrote plain_write(const uint8_t *sheet, size_t n, uint8_t *m, size_t room, uint8_t permission);
+plain_filled plain_vendor_records(const uint8_t *bytes, size_t n, uint8_t *out, size_t room);
+plain_filled plain_vendor_write(const uint8_t *sheet, size_t n, uint8_t *out, size_t room);
 
 #endif

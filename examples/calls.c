@@ -303,6 +303,56 @@ static void write_long(void)
     CHECK(w.refusal == DHCPOPT_REFUSED_RECORD_TOO_LONG && w.plan == 0 && w.place == 0);
 }
 
+/* Inside option 43: a pad, 52 twice, 255 as data, END; and the same records written. */
+static void vendor(void)
+{
+    static const uint8_t bytes[] = {0, 52, 1, 255, 52, 0, 255, 9}, cut[] = {7, 0, 8, 2, 1};
+    static const uint8_t wanted[9] = {52, 0, 1, 255, 52, 0, 0, 238, 238}, items[7] = {52, 1, 255, 52, 0, 238, 238};
+    static const uint8_t faulty[] = {1, 0, 0, 255, 0, 0};
+    uint8_t out[9];
+    memset(out, 238, sizeof out);
+    dhcpopt_filled f = dhcpopt_vendor_records(bytes, sizeof bytes, out, 6);
+    CHECK(f.refusal == DHCPOPT_REFUSED_NO_ROOM && f.size == 0 && f.place == 6);
+    f = dhcpopt_vendor_records(cut, sizeof cut, out, 0);
+    CHECK(f.refusal == DHCPOPT_REFUSED_ITEM_TRUNCATED && f.size == 0 && f.place == 2);
+    CHECK(out[0] == 238 && memcmp(out, out + 1, sizeof out - 1) == 0);
+    f = dhcpopt_vendor_records(bytes, sizeof bytes, out, sizeof out);
+    CHECK(f.refusal == DHCPOPT_NOT_REFUSED && f.size == 7 && f.place == 0 && memcmp(out, wanted, sizeof out) == 0);
+    f = dhcpopt_vendor_records(bytes, 0, out, 0);
+    CHECK(f.refusal == DHCPOPT_NOT_REFUSED && f.size == 0 && f.place == 0);
+
+    memset(out, 238, sizeof out);
+    f = dhcpopt_vendor_write(wanted, 7, out, 4);
+    CHECK(f.refusal == DHCPOPT_REFUSED_NO_ROOM && f.size == 0 && f.place == 4);
+    f = dhcpopt_vendor_write(faulty, sizeof faulty, out, sizeof out);
+    CHECK(f.refusal == DHCPOPT_REFUSED_BAD_CODE && f.size == 0 && f.place == 3);
+    f = dhcpopt_vendor_write(faulty, 5, out, sizeof out);
+    CHECK(f.refusal == DHCPOPT_REFUSED_RECORD_TRUNCATED && f.size == 0 && f.place == 3);
+    CHECK(out[0] == 238 && memcmp(out, out + 1, sizeof out - 1) == 0);
+    f = dhcpopt_vendor_write(wanted, 7, out, sizeof out);
+    CHECK(f.refusal == DHCPOPT_NOT_REFUSED && f.size == 5 && f.place == 0 && memcmp(out, items, sizeof items) == 0);
+}
+
+/* No more than DHCPOPT_LONGEST_VENDOR bytes: a record of 253 data bytes is the longest that fits, one of 255 is no longer a 13. */
+static void vendor_limits(void)
+{
+    static uint8_t sheet[3 + DHCPOPT_LONGEST_ITEM + 1] = {7, 0, 253}, out[2 * sizeof sheet], back[sizeof sheet];
+    dhcpopt_filled f = dhcpopt_vendor_write(sheet, 3 + 253, out, DHCPOPT_LONGEST_VENDOR);
+    CHECK(f.refusal == DHCPOPT_NOT_REFUSED && f.size == DHCPOPT_LONGEST_VENDOR);
+    f = dhcpopt_vendor_records(out, f.size, back, sizeof back);
+    CHECK(f.refusal == DHCPOPT_NOT_REFUSED && f.size == 3 + 253 && memcmp(back, sheet, f.size) == 0);
+    sheet[2] = DHCPOPT_LONGEST_ITEM;
+    f = dhcpopt_vendor_write(sheet, 3 + DHCPOPT_LONGEST_ITEM, out, sizeof out);
+    CHECK(f.refusal == DHCPOPT_REFUSED_NO_ROOM && f.place == sizeof out);
+    sheet[1] = 1;
+    sheet[2] = 0;
+    f = dhcpopt_vendor_write(sheet, 3 + 256, out, sizeof out);
+    CHECK(f.refusal == DHCPOPT_REFUSED_RECORD_TOO_LONG && f.place == 0);
+    static uint8_t longer[DHCPOPT_LONGEST_SHEET + 1];
+    f = dhcpopt_vendor_write(longer, sizeof longer, out, sizeof out);
+    CHECK(f.refusal == DHCPOPT_REFUSED_SHEET_TOO_LONG && f.place == DHCPOPT_LONGEST_SHEET + 1);
+}
+
 int main(void)
 {
     lookup();
@@ -315,6 +365,8 @@ int main(void)
     records();
     write_sheet();
     write_long();
+    vendor();
+    vendor_limits();
     if (!failed)
         printf("every member is as declared\n");
     return failed;

@@ -1,8 +1,8 @@
 /*
  * The options of one DHCPv4 message (RFC 2131, RFC 2132, RFC 3396): a reader and a writer, for C11 and C++17 on x86-64 Linux.
  *
- * libdhcpopt_reader.a has every call but dhcpopt_write, and libdhcpopt_writer.a has that one alone, so a meter that only
- * reads links the reader's archive alone. docs/C-API.md has an example of each call.
+ * libdhcpopt_reader.a has every call but dhcpopt_write and dhcpopt_vendor_write, and libdhcpopt_writer.a has these two alone, so a meter
+ * that only reads links the reader's archive alone. docs/C-API.md has an example of each call.
  *
  * For every call:
  * - A message or sheet is a pointer and its number of bytes. The pointer is never null, also where that number is 0.
@@ -26,9 +26,10 @@
  * 3.0: a code may come in several pieces, in one field or over several (RFC 3396). A lookup answers for all of them together, and
  * dhcpopt_copy gives their bytes. docs/C-API.md, 'What changed in version 3', says what to do.
  * 3.1: a text with a byte over 127, or with a zero before a byte that is not 0, is broken (9), and the writer refuses it.
+ * 3.2: dhcpopt_vendor_records and dhcpopt_vendor_write, for what is inside option 43 (RFC 2132, 8.4).
  */
 #define DHCPOPT_VERSION_MAJOR 3
-#define DHCPOPT_VERSION_MINOR 1
+#define DHCPOPT_VERSION_MINOR 2
 #define DHCPOPT_VERSION (100 * DHCPOPT_VERSION_MAJOR + DHCPOPT_VERSION_MINOR)
 
 #include <stddef.h>
@@ -61,7 +62,9 @@ enum dhcpopt_limit {
     DHCPOPT_LONGEST_MESSAGE = 1472, /* so it is enough for dhcpopt_copy too */
     DHCPOPT_LONGEST_PIECE = 255,    /* of an option's data in a message */
     DHCPOPT_LONGEST_RECORD = 1024,  /* of data in a record that dhcpopt_write takes */
-    DHCPOPT_LONGEST_SHEET = 4096 /* that dhcpopt_write takes. The records of a message are always shorter */
+    DHCPOPT_LONGEST_SHEET = 4096, /* that dhcpopt_write and dhcpopt_vendor_write take. The records of a message are always shorter */
+    DHCPOPT_LONGEST_ITEM = 255,   /* of data in a record that dhcpopt_vendor_write takes */
+    DHCPOPT_LONGEST_VENDOR = 255  /* that dhcpopt_vendor_write gives */
 };
 
 /*
@@ -104,6 +107,7 @@ enum dhcpopt_kind {
 
 /*
  * Why a call is refused, and after the colon what its place then is. Reading gives 1 to 7, 10 and 11; writing gives 1, 2 and 7 to 16.
+ * dhcpopt_vendor_records gives 11 and 17, dhcpopt_vendor_write 10 to 13 and 16.
  * In reading 8 and 9 refuse nothing: they say why an option is broken, in a lookup's answer of DHCPOPT_STATUS_BROKEN.
  */
 enum dhcpopt_refusal {
@@ -117,13 +121,14 @@ enum dhcpopt_refusal {
     DHCPOPT_REFUSED_DUPLICATE = 7,           /* reading, a second option 52; writing, a tag met again: the later one */
     DHCPOPT_REFUSED_BAD_LENGTH = 8,          /* the length breaks the kind: the code or tag byte */
     DHCPOPT_REFUSED_BAD_VALUE = 9,           /* the value breaks the kind: the code or tag byte */
-    DHCPOPT_REFUSED_BAD_CODE = 10,           /* reading, asked for code 0 or 255: 0. Writing, tag 0, 52 or 255: the tag byte */
-    DHCPOPT_REFUSED_NO_ROOM = 11,            /* out too small: room. A code to copy is absent: 0. Writing, no permitted plan fits: size */
+    DHCPOPT_REFUSED_BAD_CODE = 10,           /* reading, asked for code 0 or 255: 0. Writing, tag 0, 52 (no item) or 255: the tag byte */
+    DHCPOPT_REFUSED_NO_ROOM = 11,            /* out too small, items over 255 bytes: room. A code to copy is absent: 0. No plan fits: size */
     DHCPOPT_REFUSED_RECORD_TRUNCATED = 12,   /* record head or data beyond the sheet: the tag byte */
-    DHCPOPT_REFUSED_RECORD_TOO_LONG = 13,    /* record of more than 1,024 data bytes: the tag byte */
+    DHCPOPT_REFUSED_RECORD_TOO_LONG = 13,    /* record of more than 1,024 data bytes, for items more than 255: the tag byte */
     DHCPOPT_REFUSED_ROUTER_BEFORE_MASK = 14, /* tag 3 stands before tag 1: the byte of tag 3 */
     DHCPOPT_REFUSED_BAD_PERMISSION = 15,     /* permission over 3: 0 */
-    DHCPOPT_REFUSED_SHEET_TOO_LONG = 16      /* sheet over 4,096 bytes: its length */
+    DHCPOPT_REFUSED_SHEET_TOO_LONG = 16,     /* sheet over 4,096 bytes: its length */
+    DHCPOPT_REFUSED_ITEM_TRUNCATED = 17      /* length byte or data of an item beyond the bytes: its code byte */
 };
 
 /* Permissions to overload, and the plans that the writer may then use: the value of option 52, or 0 without it. */
@@ -171,7 +176,7 @@ typedef struct {
     size_t place;
 } dhcpopt_codes;
 
-/* What dhcpopt_records or dhcpopt_copy gave: size bytes, or a refusal. */
+/* What dhcpopt_records, dhcpopt_copy, dhcpopt_vendor_records or dhcpopt_vendor_write gave: size bytes, or a refusal. */
 typedef struct {
     uint32_t refusal; /* DHCPOPT_NOT_REFUSED, or size is 0 */
     size_t size;
@@ -233,6 +238,17 @@ dhcpopt_codes dhcpopt_present(const uint8_t *message, size_t size);
 dhcpopt_filled dhcpopt_records(const uint8_t *message, size_t size, uint8_t *out, size_t room);
 
 /*
+ * The items inside option 43, vendor specific information (RFC 2132, 8.4), in their order as records in out. bytes and size are those of
+ * the data: message + start and length, or, of a code in several pieces, what dhcpopt_copy gave. There may be any number of them.
+ * An item is a code from 1 to 254 (52 is one like any other, and a code may stand more than once), a length byte and that many data bytes.
+ * 0 is a pad. 255 ends, and what follows it is not read; the bytes may also just run out between two items.
+ * Bytes of out after the given ones stay as they were. A refusal leaves all of out as it was.
+ * Refused by 17, an item that runs past the bytes, at its code byte, its place in bytes; then by 11 at room. A room of 2 * size is always
+ * enough.
+ */
+dhcpopt_filled dhcpopt_vendor_records(const uint8_t *bytes, size_t size, uint8_t *out, size_t room);
+
+/*
  * Writes a sheet of such records into a message buffer. The whole buffer, all its size bytes, is then the message.
  * A record of more than 255 data bytes is cut into pieces of 255 and a last one of 1 to 255, in order; each is whole in one field.
  * Permitted plans are tried rising, and the first that fits is used. Written are the cookie, the options field and whichever of file
@@ -242,6 +258,15 @@ dhcpopt_filled dhcpopt_records(const uint8_t *message, size_t size, uint8_t *out
  * permission is one byte: C cuts a larger number to its low byte before the call, 259 to 3.
  */
 dhcpopt_wrote dhcpopt_write(const uint8_t *sheet, size_t sheet_size, uint8_t *buffer, size_t size, uint8_t permission);
+
+/*
+ * Writes the records of a sheet as items to the front of out: what option 43 is to hold, as a record for dhcpopt_write. There is no END
+ * behind them. dhcpopt_vendor_records gives the same records back.
+ * Bytes of out after the given ones stay as they were. A refusal leaves all of out as it was.
+ * Refused, in this order: 16 at sheet_size; the first faulty record at its tag byte: 12, 10 (tag 0 or 255), 13 (over 255 data bytes);
+ * then 11 at room, where the items take more than room or more than 255 bytes. No more room than DHCPOPT_LONGEST_VENDOR is needed.
+ */
+dhcpopt_filled dhcpopt_vendor_write(const uint8_t *sheet, size_t sheet_size, uint8_t *out, size_t room);
 
 /* A set of known codes. Begin with {{0, 0, 0, 0}} or with dhcpopt_known_all. */
 typedef struct {

@@ -94,9 +94,9 @@ def cases_of(text):
 
 
 def reasons():
-    """The reason of each case that stands one by one in the two make.py; of one that is tried with every permission, without it."""
+    """The reason of each case that stands one by one in a make.py; of one that is tried with every permission, without it."""
     sys.dont_write_bytecode = True
-    for name in ("vectors", "sheets"):
+    for name in ("vectors", "sheets", "items"):
         spec = importlib.util.spec_from_file_location(name, ROOT / "tests" / name / "make.py")
         module = importlib.util.module_from_spec(spec)
         spec.loader.exec_module(module)

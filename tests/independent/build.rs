@@ -7,10 +7,11 @@ use std::{env, fs, path::Path};
 include!("build/variants.rs");
 
 /// The files of src/rules that are copied, each with those it is used by.
-const FILES: [(&str, &[&str]); 3] = [
+const FILES: [(&str, &[&str]); 4] = [
     ("kinds.rs", &["kinds.rs", "reading.rs", "writing.rs"]),
     ("reading.rs", &["reading.rs"]),
     ("writing.rs", &["writing.rs"]),
+    ("vendor.rs", &["vendor.rs"]),
 ];
 
 fn main() {

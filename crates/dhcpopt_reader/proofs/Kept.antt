@@ -10,12 +10,15 @@ use lib.ListN.{length, drop}
 use borrow.Author.Tests.{ne-eqb}
 use Rattle.options.specs.Message.{Field, options, file, sname, Opt, endToEnd}
 use Rattle.options.specs.Kinds.{Kind, broken, number, part}
-use Rattle.options.specs.Reading.{Reading, accepted, refused, readMessage, pieces}
+use Rattle.options.specs.Reading.{Reading, accepted, refused, readMessage, pieces, parse}
+use Rattle.options.specs.Vendor.{Items, listed, past, itemsIn, itemRecords, vendorIn, vendorRecords}
 use Rattle.options.specs.Answers as asked
+use Rattle.filled.specs.Plain.{Kept}
+use Rattle.filled.proofs.Kept.{declined-kept, either-kept, given-kept}
 use Rattle.kinds.proofs.Numbering.{kind-back}
 use Rattle.present.specs.Marked.{placeOf}
 use Rattle.present.proofs.Kept.{refused-by-a-number, verdict-back}
-use Rattle.dhcpopt_reader.specs.Plain.{VerdictKept, FromNoOption, NoOriginTold, NeedlessMembers, NoPlaceNoSize, fieldNumber, plainWhole, plainSeveral, plainAnswer, plainFilled, fieldAt, originFrom, both, AnswerKept, PlacesKept, ExtentKept, AddressKept, DoneStays, CodesKept, givenFrom, FilledKept, CopyKept}
+use Rattle.dhcpopt_reader.specs.Plain.{VerdictKept, FromNoOption, NoOriginTold, NeedlessMembers, NoPlaceNoSize, fieldNumber, plainWhole, plainSeveral, plainAnswer, fieldAt, originFrom, both, AnswerKept, PlacesKept, ExtentKept, AddressKept, DoneStays, CodesKept, FilledKept, CopyKept, VendorKept}
 
 field-kept : (fd : Field) → fieldAt (fieldNumber fd) ≡ some fd
 field-kept options = refl
@@ -62,24 +65,8 @@ codes-kept m =
     let r : asked.Present = asked.present m in
     ap (λ (v : asked.Verdict). record { verdict = v; words = r .words; count = r .count; lowest = r .lowest }) (verdict-back m (readMessage m) refl)
 
-declined-kept : (n p : ℕ) → 1 ≤ n → givenFrom (plainFilled (asked.declined n p)) ≡ asked.declined n p
-declined-kept n p h = rw (ne-eqb n 0 (λ z. omega arith))
-
-abbrev Kept : asked.Filled → Type 0
-Kept w = givenFrom (plainFilled (w .answer)) ≡ w .answer
-
-either-kept : (b : Bool) (x y : asked.Filled) → Kept x → Kept y → Kept (cond b x y)
-either-kept true x y k l = k
-either-kept false x y k l = l
-
--- what is given in a buffer, or 11
-given-kept : (xs old : List ℕ) → Kept (asked.filledWith xs old)
-given-kept xs old =
-    either-kept (ltb (length old) (length xs)) (asked.unfilled 11 (length old) old) (record { answer = asked.given (length xs); buffer = xs ++ drop (length xs) old })
-    (declined-kept 11 (length old) (omega arith)) refl
-
 filled-in : (m old : List ℕ) (w : Reading) → readMessage m ≡ w → Kept (asked.recordsIn w old)
-filled-in m old (refused n p) e = declined-kept n p (refused-by-a-number m n p e)
+filled-in m old (refused n p) e = declined-kept n p old (λ z. omega (arith, refused-by-a-number m n p e))
 filled-in m old (accepted os) e = given-kept (asked.recordBytes (asked.sheetRecords os)) old
 
 pub filled-kept : FilledKept
@@ -87,16 +74,24 @@ unfolding asked.records
 filled-kept m old = filled-in m old (readMessage m) refl
 
 copy-of : (ps : List Opt) (old : List ℕ) → Kept (asked.copyFound ps old)
-copy-of [] old = declined-kept 11 0 (omega arith)
+copy-of [] old = declined-kept 11 0 old (λ z. omega arith)
 copy-of (o ∷ os) old = given-kept (endToEnd (o ∷ os)) old
 
 copy-in : (m old : List ℕ) (c : ℕ) (w : Reading) → readMessage m ≡ w → Kept (asked.copyIn c w old)
-copy-in m old c (refused n p) e = declined-kept n p (refused-by-a-number m n p e)
+copy-in m old c (refused n p) e = declined-kept n p old (λ z. omega (arith, refused-by-a-number m n p e))
 copy-in m old c (accepted os) e = copy-of (pieces c os) old
 
 pub copy-kept : CopyKept
 unfolding asked.copy
-copy-kept m c old = either-kept (asked.noCode c) (asked.unfilled 10 0 old) (asked.copyIn c (readMessage m) old) (declined-kept 10 0 (omega arith)) (copy-in m old c (readMessage m) refl)
+copy-kept m c old = either-kept (asked.noCode c) (asked.unfilled 10 0 old) (asked.copyIn c (readMessage m) old) (declined-kept 10 0 old (λ z. omega arith)) (copy-in m old c (readMessage m) refl)
+
+vendor-in : (w : Items) (old : List ℕ) → Kept (vendorIn w old)
+vendor-in (past i) old = declined-kept 17 i old (λ z. omega arith)
+vendor-in (listed xs) old = given-kept (asked.recordBytes (itemRecords xs)) old
+
+pub vendor-kept : VendorKept
+unfolding vendorRecords
+vendor-kept f old = vendor-in (itemsIn (parse 0 0 f)) old
 
 pub verdict-kept : VerdictKept
 verdict-kept asked.Absent = record { refusal-told = refl; place-told = refl }

@@ -9,6 +9,8 @@ use lib.IntN.{ℤ, pos}
 use Rattle.options.specs.Message.{Field, options, file, sname, start}
 use Rattle.options.specs.Kinds.{Kind, broken, number, part}
 use Rattle.options.specs.Answers as asked
+use Rattle.options.specs.Vendor.{vendorRecords}
+use Rattle.filled.specs.Plain.{plainFilled, Kept}
 use Rattle.ranges.specs.Rows.{numberOf}
 use Rattle.kinds.specs.Numbers.{kindFrom}
 use Rattle.present.specs.Marked.{numberOf as refusalOf, placeOf, verdictFrom}
@@ -17,7 +19,6 @@ use Rattle.dhcpopt_reader.specs.declared.PlainContent.{PlainContent}
 use Rattle.dhcpopt_reader.specs.declared.PlainExtent.{PlainExtent}
 use Rattle.dhcpopt_reader.specs.declared.PlainAddress.{PlainAddress}
 use Rattle.dhcpopt_reader.specs.declared.PlainCodes.{PlainCodes}
-use Rattle.dhcpopt_reader.specs.declared.PlainFilled.{PlainFilled}
 
 -- ---- The lookup's answer
 
@@ -96,11 +97,6 @@ abbrev pub plainCodes : asked.Present → PlainCodes
 plainCodes r =
     record { words = r .words; count = r .count; lowest = r .lowest; refusal = refusalOf (r .verdict); place = placeOf (r .verdict) }
 
--- the bytes given, or number and place of a refusal
-abbrev pub plainFilled : asked.Given → PlainFilled
-plainFilled (asked.given n) = record { refusal = 0; size = n; place = 0 }
-plainFilled (asked.declined n p) = record { refusal = n; size = 0; place = p }
-
 -- ---- Nothing is lost: from what C gets, the answer can be had back. A number that stands for nothing gives none.
 
 -- the field with a number
@@ -171,15 +167,15 @@ presentFrom c = record { verdict = verdictFrom (c .refusal) (c .place); words = 
 abbrev pub CodesKept : Type 0
 CodesKept = (m : List ℕ) → presentFrom (plainCodes (asked.present m)) ≡ asked.present m
 
-abbrev pub givenFrom : PlainFilled → asked.Given
-givenFrom f = cond (eqb (f .refusal) 0) (asked.given (f .size)) (asked.declined (f .refusal) (f .place))
-
 -- refusal 0 is no refusal's number
 abbrev pub FilledKept : Type 0
-FilledKept = (m old : List ℕ) → givenFrom (plainFilled (asked.records m old .answer)) ≡ asked.records m old .answer
+FilledKept = (m old : List ℕ) → Kept (asked.records m old)
 
 abbrev pub CopyKept : Type 0
-CopyKept = (m : List ℕ) (c : ℕ) (old : List ℕ) → givenFrom (plainFilled (asked.copy m c old .answer)) ≡ asked.copy m c old .answer
+CopyKept = (m : List ℕ) (c : ℕ) (old : List ℕ) → Kept (asked.copy m c old)
+
+abbrev pub VendorKept : Type 0
+VendorKept = (f old : List ℕ) → Kept (vendorRecords f old)
 
 -- refusal and place are those of a refusal or of what is broken, and 0 and 0 elsewhere
 pub record VerdictTold (a : asked.Answer) : Type 0 where

@@ -10,11 +10,12 @@ ghost use Rattle.options.specs.CodeSet.{marked};
 ghost use Rattle.options.specs.Answers.{lookup, dataOf, textOf, addressStep, present};
 ghost use Rattle.message.specs.Fields.{fieldOf};
 ghost use Rattle.lookup.specs.Shown.{contentOf, wholenessOf, originOf, answerOf, extentOf};
-ghost use Rattle.dhcpopt_reader.specs.Plain.{plainNumber, plainPart, plainContent, fieldNumber, plainWhole, plainSeveral, plainFound, plainRefusal, plainAnswer, Near, plainExtent, plainAddress, plainCodes, plainFilled};
+ghost use Rattle.dhcpopt_reader.specs.Plain.{plainNumber, plainPart, plainContent, fieldNumber, plainWhole, plainSeveral, plainFound, plainRefusal, plainAnswer, Near, plainExtent, plainAddress, plainCodes};
 ghost use Rattle.options.specs.Answers as answers;
-ghost use Rattle.filled.specs.Fill.{givenOf};
+ghost use Rattle.filled.specs.Plain.{plainFilled};
+ghost use Rattle.options.specs.Vendor.{vendorRecords};
 use address::Cursor;
-use filled::Given;
+use filled::PlainFilled;
 use lookup::Answer;
 use lookup::Content;
 use lookup::Extent;
@@ -70,14 +71,6 @@ pub struct PlainCodes {
     pub count: u32,
     pub lowest: u32,
     pub refusal: u32,
-    pub place: usize,
-}
-
-// refusal: 0 where size bytes were given; else its number, with its place, and the buffer is as it was.
-#[repr(C)]
-pub struct PlainFilled {
-    pub refusal: u32,
-    pub size: usize,
     pub place: usize,
 }
 
@@ -318,29 +311,12 @@ pub extern "C" fn dhcpopt_present(m: &[u8]) -> PlainCodes
     }
 }
 
-fn of_given(g: Given) -> PlainFilled
-    ensures { λ r. ⌜ r ≡ plainFilled (givenOf g) ⌝ }
-{
-    match g {
-        Given::Bytes(size) => PlainFilled {
-            refusal: 0,
-            size,
-            place: 0,
-        },
-        Given::Refused { number, place } => PlainFilled {
-            refusal: number,
-            size: 0,
-            place,
-        },
-    }
-}
-
 // Every code but 52, in the reading order of its first piece, as a record in the buffer out.
 #[no_mangle]
 pub extern "C" fn dhcpopt_records(m: &[u8], out: &mut [u8]) -> PlainFilled
     ensures { λ r. ⌜ (r ≡ plainFilled (answers.records (now (m .entry)) (now (out .entry)) .answer)) × (now (out .exit) ≡ answers.records (now (m .entry)) (now (out .entry)) .buffer) ⌝ }
 {
-    of_given(records::records(m, out))
+    filled::plain(records::records(m, out))
 }
 
 // The bytes of a code, those of all its pieces end to end, at the front of the buffer out.
@@ -348,5 +324,13 @@ pub extern "C" fn dhcpopt_records(m: &[u8], out: &mut [u8]) -> PlainFilled
 pub extern "C" fn dhcpopt_copy(m: &[u8], code: u8, out: &mut [u8]) -> PlainFilled
     ensures { λ r. ⌜ (r ≡ plainFilled (answers.copy (now (m .entry)) code (now (out .entry)) .answer)) × (now (out .exit) ≡ answers.copy (now (m .entry)) code (now (out .entry)) .buffer) ⌝ }
 {
-    of_given(lookup::copy(m, code, out))
+    filled::plain(lookup::copy(m, code, out))
+}
+
+// The items of the bytes of an option 43, each as a record in the buffer out.
+#[no_mangle]
+pub extern "C" fn dhcpopt_vendor_records(bytes: &[u8], out: &mut [u8]) -> PlainFilled
+    ensures { λ r. ⌜ (r ≡ plainFilled (vendorRecords (now (bytes .entry)) (now (out .entry)) .answer)) × (now (out .exit) ≡ vendorRecords (now (bytes .entry)) (now (out .entry)) .buffer) ⌝ }
+{
+    filled::plain(vendor::records(bytes, out))
 }

@@ -6,6 +6,8 @@ use Prim.Native.Nat.{ℕ}
 use lib.Dec.{eqb}
 use Rattle.options.specs.Kinds.{kinds}
 use Rattle.options.specs.Writing as options
+use Rattle.options.specs.Vendor.{vendorWrite}
+use Rattle.filled.specs.Plain.{Kept}
 use Rattle.plan.specs.declared.Choice.{Choice}
 use Rattle.plan.specs.declared.Choice.the-variants.{Plan, Refused}
 use Rattle.dhcpopt_writer.specs.declared.PlainWrote.{PlainWrote}
@@ -31,3 +33,7 @@ PlainLosesNothing = (s m : List ℕ) (permission : ℕ)
 -- what a call does not give is 0: a place where the sheet is written, a plan where it is refused
 abbrev pub NoPlaceNoPlan : Type 0
 NoPlaceNoPlan = (p : ℕ) (b : List ℕ) (n q : ℕ) → (plainWrote (options.wrote p b) .place ≡ 0) × (plainWrote (options.declined n q) .plan ≡ 0)
+
+-- nor is anything of what is given of vendor information
+abbrev pub VendorKept : Type 0
+VendorKept = (s out : List ℕ) → Kept (vendorWrite s out)

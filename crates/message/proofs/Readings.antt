@@ -17,7 +17,7 @@ use Rattle.message.specs.Active.{activeIn}
 use Rattle.message.specs.Scan.{firstStart, placeAfter, usedBy, refusedAt, scanIn}
 use Rattle.message.specs.declared.Walked.{Walked}
 use Rattle.message.specs.Walk.{Run, Walk, nothing, begun, walkOf, walkedOf}
-use Rattle.message.specs.Walking.{unfitOf, numberOf, scannedOf, walkField, step, allWalked, othersIn, Gives, Scans}
+use Rattle.message.specs.Walking.{unfitOf, numberOf, scannedOf, startFrom, bytesFrom, walkField, step, allWalked, othersIn, Gives, Scans}
 use Rattle.message.proofs.Twin.{overFrom, No52, firstFrom, Adds, adds-then, Codes, parse-codes, Watching, OverIs, Judged, twin}
 
 -- without an option 52 in them, further options leave its value
@@ -27,11 +27,22 @@ over-append [] [] n = refl
 over-append [] (p ∷ ps) n = rw (n .0) (over-append [] ps (n .1))
 over-append (o ∷ os) ps n = ap (cond (eqb (o .item .tag) 52) (getD (o .item .body) 0 0)) (over-append os ps n)
 
+-- a message's options field begins at 240
+start-240 : (fd : Field) → startFrom 240 fd ≡ start fd
+start-240 options = refl
+start-240 file = refl
+start-240 sname = refl
+
+bytes-240 : (fd : Field) (m : List ℕ) → bytesFrom 240 fd m ≡ bytes fd m
+bytes-240 options m = refl
+bytes-240 file m = refl
+bytes-240 sname m = refl
+
 module _ (w : List ℕ) (marks : Bool) (want : ℕ) (y : Watching w want) (m : List ℕ) (b : AllBytes m) where
   field-judged : (fd : Field) (seen : Bool) (s : Run) → (isOptions fd ≡ true → seen ≡ not (eqb (s .kept .over) 0))
-      → Judged marks want fd s (judge fd seen (parse 0 0 (bytes fd m))) (walkField w marks want m fd s)
+      → Judged marks want fd s (judge fd seen (parse 0 0 (bytes fd m))) (walkField w marks want 240 m fd s)
   unfolding walkField
-  field-judged fd seen s h = twin w marks want y fd (parse 0 0 (bytes fd m)) (parse-codes 0 0 (bytes fd m) (all-field fd m b)) seen s h
+  field-judged fd seen s h = rw (start-240 fd, bytes-240 fd m) (twin w marks want y fd (parse 0 0 (bytes fd m)) (parse-codes 0 0 (bytes fd m) (all-field fd m b)) seen s h)
 
   and-nil : (s : Run) (j : Reading) (k : Walk) → Judged marks want options s j k → Judged marks want options s (andThen [] j) k
   and-nil s (accepted os) k x = x
@@ -56,8 +67,8 @@ module _ (w : List ℕ) (marks : Bool) (want : ℕ) (y : Watching w want) (m : L
 
   -- one more field: what it gives, and that it leaves the value of option 52
   record More (s : Run) (fd : Field) (on : Bool) (r : Reading) (k : Walk) : Type 0 where
-    judged : Judged marks want options s (extend on fd m r) (step w marks want m fd k)
-    over-kept : (qs : List Opt) → extend on fd m r ≡ accepted qs → step w marks want m fd k .run .kept .over ≡ k .run .kept .over
+    judged : Judged marks want options s (extend on fd m r) (step w marks want 240 m fd k)
+    over-kept : (qs : List Opt) → extend on fd m r ≡ accepted qs → step w marks want 240 m fd k .run .kept .over ≡ k .run .kept .over
 
   more-field : (s : Run) (fd : Field) → isOptions fd ≡ false → (on : Bool) (r : Reading) (k : Walk) → Judged marks want options s r k
       → ((os : List Opt) → r ≡ accepted os → activeIn (k .run .kept .over) fd ≡ on) → More s fd on r k
@@ -71,8 +82,8 @@ module _ (w : List ℕ) (marks : Bool) (want : ℕ) (y : Watching w want) (m : L
       let no : isOptions fd ≡ true → false ≡ not (eqb (k .run .kept .over) 0) = λ q. clash (cc) in
       let j = field-judged fd false (k .run) no in
       record {
-        judged = rw (eq-eqb (k .end) 0 (x .0), a) (then-judged s fd f k os (x .1) (x .2) (judge fd false (parse 0 0 (bytes fd m))) (walkField w marks want m fd (k .run)) j);
-        over-kept = λ qs e. rw (eq-eqb (k .end) 0 (x .0), a) (then-over s fd f k os (x .1) (x .2) (judge fd false (parse 0 0 (bytes fd m))) (walkField w marks want m fd (k .run)) j qs e);
+        judged = rw (eq-eqb (k .end) 0 (x .0), a) (then-judged s fd f k os (x .1) (x .2) (judge fd false (parse 0 0 (bytes fd m))) (walkField w marks want 240 m fd (k .run)) j);
+        over-kept = λ qs e. rw (eq-eqb (k .end) 0 (x .0), a) (then-over s fd f k os (x .1) (x .2) (judge fd false (parse 0 0 (bytes fd m))) (walkField w marks want 240 m fd (k .run)) j qs e);
       }
 
   -- the value that was kept in options
@@ -85,7 +96,7 @@ module _ (w : List ℕ) (marks : Bool) (want : ℕ) (y : Watching w want) (m : L
   was-accepted true fd (refused n p) qs e = clash (cc)
   was-accepted false fd (refused n p) qs e = clash (cc)
 
-  pub all-judged : (set : List ℕ) → Judged marks want options (begun set) (allFields m) (allWalked w marks want m set)
+  pub all-judged : (set : List ℕ) → Judged marks want options (begun set) (allFields m) (allWalked w marks want 240 m set)
   unfolding allFields allWalked
   all-judged set = snames .judged
     where
@@ -93,7 +104,7 @@ module _ (w : List ℕ) (marks : Bool) (want : ℕ) (y : Watching w want) (m : L
       r₀ = extend true options m (accepted [])
 
       k₀ : Walk
-      k₀ = walkField w marks want m options (begun set)
+      k₀ = walkField w marks want 240 m options (begun set)
 
       first : Judged marks want options (begun set) r₀ k₀
       first = and-nil (begun set) (judge options false (parse 0 0 (bytes options m))) k₀ (field-judged options false (begun set) (λ _. refl))
@@ -105,7 +116,7 @@ module _ (w : List ℕ) (marks : Bool) (want : ℕ) (y : Watching w want) (m : L
       r₁ = extend (fileIn (overloadOf r₀)) file m r₀
 
       k₁ : Walk
-      k₁ = step w marks want m file k₀
+      k₁ = step w marks want 240 m file k₀
 
       snames : More (begun set) sname (snameIn (overloadOf r₀)) r₁ k₁
       snames =
@@ -177,12 +188,12 @@ module _ (marks : Bool) (want : ℕ) (m set : List ℕ) where
   pub scans-refused : (n p : ℕ) → readMessage m ≡ refused n p → (r : Scanned) → r ≡ refusedAt n p → Scans marks want m set r set
   scans-refused n p e r q = record { is = q ∙ ap (scanIn marks want) (sym e); codes = λ _ _ os f. clash (cc) }
 
-  pub scans-walked : (w : List ℕ) (y : Watching w want) (b : AllBytes m) → unfitOf m ≡ 0 → (s : Walked) (set′ : List ℕ) → Gives w marks want m set s set′ → (r : Scanned) → r ≡ scannedOf marks s → Scans marks want m set r set′
+  pub scans-walked : (w : List ℕ) (y : Watching w want) (b : AllBytes m) → unfitOf m ≡ 0 → (s : Walked) (set′ : List ℕ) → Gives w marks want 240 m set s set′ → (r : Scanned) → r ≡ scannedOf marks s → Scans marks want m set r set′
   scans-walked w y b e s set′ g r q =
       let j = all-judged w marks want y m b set in
       record {
-        is = q ∙ ap (scannedOf marks) (g .is) ∙ told-is w marks want y m b set (allFields m) (allWalked w marks want m set) j ∙ ap (scanIn marks want) (sym (read-fit m e));
-        codes = λ a c os f. g .codes ∙ marked-in (allFields m) (allWalked w marks want m set) j os (sym (read-fit m e) ∙ f) a c;
+        is = q ∙ ap (scannedOf marks) (g .is) ∙ told-is w marks want y m b set (allFields m) (allWalked w marks want 240 m set) j ∙ ap (scanIn marks want) (sym (read-fit m e));
+        codes = λ a c os f. g .codes ∙ marked-in (allFields m) (allWalked w marks want 240 m set) j os (sym (read-fit m e) ∙ f) a c;
       }
     where
       marked-in : (v : Reading) (k : Walk) → Judged marks want options (begun set) v k → (os : List Opt) → v ≡ accepted os → marks ≡ true → want ≡ 52 → k .run .set ≡ othersIn set os

@@ -6,13 +6,16 @@ use Prim.Native.Nat.{ℕ, _+_, _-_, _*_, _≤_, _<_}
 use native.Mathlib.Omega.{arith}
 use lib.Dec.{eqb}
 use borrow.Author.Tests.{eq-eqb, ne-eqb, eqb-true}
-use lib.ListN.{length, take, drop}
-use Rattle.options.specs.Message.{Field, options, file, sname, start, bytes}
-use Rattle.options.specs.Reading.{isOptions, fileIn, snameIn}
+use lib.ListN.{length, take, drop, length-drop}
+use lib.Seq.{length-take-le}
+use Rattle.options.specs.Message.{Field, options, file, sname}
+use Rattle.options.specs.Reading.{isOptions, fileIn, snameIn, parse}
+use Rattle.options.specs.CodeSet.{marked}
 use Rattle.message.specs.declared.Walked.{Walked}
 use Rattle.message.specs.Walk.{Run, Walk, begun, walkedOf, runOf, stoppedAt, Few, Walks}
-use Rattle.message.specs.Walking.{afterFile, afterOptions, nextField, walkField, step, allWalked, Gives}
+use Rattle.message.specs.Walking.{afterFile, afterOptions, nextField, startFrom, bytesFrom, walkField, step, allWalked, Gives, Laid, in-message, in-none}
 use Rattle.message.proofs.Laws.{take-rest}
+use Rattle.message.proofs.Walks.{walk-no-over}
 
 abbrev pub turnOf : Field → ℕ
 turnOf options = 0
@@ -37,15 +40,15 @@ is-main options = refl
 is-main file = refl
 is-main sname = refl
 
-module _ (w : List ℕ) (marks : Bool) (want : ℕ) (m : List ℕ) where
+module _ (w : List ℕ) (marks : Bool) (want first : ℕ) (m : List ℕ) where
   -- the fields after fd, once fd gave k
   abbrev pub onAfter : Field → Walk → Walk
-  onAfter options k = step w marks want m sname (step w marks want m file k)
-  onAfter file k = step w marks want m sname k
+  onAfter options k = step w marks want first m sname (step w marks want first m file k)
+  onAfter file k = step w marks want first m sname k
   onAfter sname k = k
 
   abbrev pub onFrom : Field → Run → Walk
-  onFrom fd r = onAfter fd (walkField w marks want m fd r)
+  onFrom fd r = onAfter fd (walkField w marks want first m fd r)
 
   on-refused : (fd : Field) (k : Walk) → (k .end ≡ 0 → ⊥) → onAfter fd k ≡ k
   on-refused options k h = rw (ne-eqb (k .end) 0 h, ne-eqb (k .end) 0 h)
@@ -93,40 +96,52 @@ module _ (w : List ℕ) (marks : Bool) (want : ℕ) (m : List ℕ) where
   pub record Turning (set : List ℕ) (set′ : List ℕ) (s : Walked) (turn from to : ℕ) : Type 0 where
     pub fd : Field
     pub is-turn : turn ≡ turnOf fd
-    pub is-from : from ≡ start fd
+    pub is-from : from ≡ startFrom first fd
     pub is-to : to ≡ endOf m fd
+    pub inside : (from < to) × (to ≤ length m) × (from ≤ 240)
+    pub no-over : marked w 52 ≡ false → s .kept .over ≡ 0
     pub few : Few (65536 * turn) s
-    pub same : onFrom fd (runOf set′ s) ≡ allWalked w marks want m set
+    pub same : onFrom fd (runOf set′ s) ≡ allWalked w marks want first m set
 
   few-none : (s : Walked) → s ≡ stoppedAt 0 0 → Few 0 s
   few-none s e = rw e (record { whole = omega arith; used = omega arith; count = omega arith })
 
-  pub turning-begins : (set : List ℕ) (s : Walked) → s ≡ stoppedAt 0 0 → Turning set set s 0 240 (length m)
+  first-low : Laid w first m → first ≤ 240
+  first-low (in-message e l) = omega arith
+  first-low (in-none e n) = omega arith
+
+  pub turning-begins : first < length m → Laid w first m → (set : List ℕ) (s : Walked) → s ≡ stoppedAt 0 0 → Turning set set s 0 first (length m)
   unfolding allWalked
-  turning-begins set s e =
-      record { fd = options; is-turn = refl; is-from = refl; is-to = refl; few = few-none s e; same = ap (λ (r : Walked). onFrom options (runOf set r)) e }
+  turning-begins h l set s e =
+      record {
+        fd = options;
+        is-turn = refl;
+        is-from = refl;
+        is-to = refl;
+        inside = (h, omega arith, first-low l);
+        no-over = λ _. ap (λ (r : Walked). r .kept .over) e;
+        few = few-none s e;
+        same = ap (λ (r : Walked). onFrom options (runOf set r)) e;
+      }
 
-  module _ (h : 240 < length m) (l : length m ≤ 1472) where
-    pub fd-in : (fd : Field) → (start fd < endOf m fd) × (endOf m fd ≤ length m) × (endOf m fd - start fd ≤ 65536) × (start fd ≤ 240)
-    fd-in options = (omega arith, omega arith, omega arith, omega arith)
-    fd-in file = (omega arith, omega arith, omega arith, omega arith)
-    fd-in sname = (omega arith, omega arith, omega arith, omega arith)
-
-  pub fd-part : (fd : Field) → take (endOf m fd - start fd) (drop (start fd) m) ≡ bytes fd m
-  fd-part options = take-rest m 240
+  pub fd-part : (fd : Field) → take (endOf m fd - startFrom first fd) (drop (startFrom first fd) m) ≡ bytesFrom first fd m
+  fd-part options = take-rest m first
   fd-part file = refl
   fd-part sname = refl
 
   module _ {set set′ : List ℕ} {s : Walked} {turn from to : ℕ} (y : Turning set set′ s turn from to) where
-    pub part : take (to - from) (drop from m) ≡ bytes (y .fd) m
+    pub part-length : length (take (to - from) (drop from m)) ≡ to - from
+    part-length = length-take-le (to - from) (drop from m) (omega (arith, length-drop from m, y .inside .1))
+
+    part : take (to - from) (drop from m) ≡ bytesFrom first (y .fd) m
     part = rw (y .is-from, y .is-to) (fd-part (y .fd))
 
     -- what the walk of fd gave
     module _ (r : Walked) (set″ : List ℕ) (z : Walks w marks (eqb turn 0) want from (take (to - from) (drop from m)) s set′ r set″) where
       abbrev k : Walk
-      k = walkField w marks want m (y .fd) (runOf set′ s)
+      k = walkField w marks want first m (y .fd) (runOf set′ s)
 
-      walked : Walks w marks (isOptions (y .fd)) want (start (y .fd)) (bytes (y .fd) m) s set′ r set″
+      walked : Walks w marks (isOptions (y .fd)) want (startFrom first (y .fd)) (bytesFrom first (y .fd) m) s set′ r set″
       walked =
           let e : eqb turn 0 ≡ isOptions (y .fd) = ap (λ (n : ℕ). eqb n 0) (y .is-turn) ∙ is-main (y .fd) in
           rw (← e, ← part, ← y .is-from) z
@@ -148,10 +163,14 @@ module _ (w : List ℕ) (marks : Bool) (want : ℕ) (m : List ℕ) where
       over-is : r .kept .over ≡ k .run .kept .over
       over-is = ap (λ (x : Walked). x .kept .over) r-is
 
-      gives : onAfter (y .fd) k ≡ k → Gives w marks want m set r set″
+      over-none : marked w 52 ≡ false → r .kept .over ≡ 0
+      unfolding walkField
+      over-none h = over-is ∙ walk-no-over w marks (isOptions (y .fd)) want (startFrom first (y .fd)) h (parse 0 0 (bytesFrom first (y .fd) m)) (runOf set′ s) (y .no-over h)
+
+      gives : onAfter (y .fd) k ≡ k → Gives w marks want first m set r set″
       gives e = record { is = r-is ∙ ap walkedOf (sym e ∙ y .same); codes = set-is ∙ ap (λ (x : Walk). x .run .set) (sym e ∙ y .same) }
 
-      pub turning-refused : (r .end ≡ 0 → ⊥) → Gives w marks want m set r set″
+      pub turning-refused : (r .end ≡ 0 → ⊥) → Gives w marks want first m set r set″
       turning-refused h = gives (on-refused (y .fd) k (λ e. h (end-is ∙ e)))
 
       module _ (h : r .end ≡ 0) (n : ℕ) (q : n ≡ nextField turn (r .kept .over)) where
@@ -160,7 +179,7 @@ module _ (w : List ℕ) (marks : Bool) (want : ℕ) (m : List ℕ) where
             let e : n ≡ nextField (turnOf (y .fd)) (k .run .kept .over) = q ∙ ap₂ nextField (y .is-turn) over-is in
             subst (Next (y .fd) k) (sym e) (next-of k (sym end-is ∙ h) (y .fd) (eqb (k .run .kept .over) 0) (fileIn (k .run .kept .over)) (snameIn (k .run .kept .over)) refl refl refl)
 
-        pub turning-ends : n ≡ 3 → Gives w marks want m set r set″
+        pub turning-ends : n ≡ 3 → Gives w marks want first m set r set″
         turning-ends e = gives (next .none e)
 
         pub turning-less : (n ≡ 3 → ⊥) → turn < n
@@ -169,16 +188,44 @@ module _ (w : List ℕ) (marks : Bool) (want : ℕ) (m : List ℕ) where
         pub turning-two : (n ≡ 3 → ⊥) → (n ≡ 1 → ⊥) → n ≡ 2
         turning-two e o = next .small e o
 
-        pub turning-few : (n ≡ 3 → ⊥) → Few (65536 * n) r
-        turning-few e =
-            let f = z .few (65536 * turn) (y .few) in
-            let g = turning-less e in
-            record { whole = omega (arith, f .whole); used = omega (arith, f .used); count = omega (arith, f .count) }
+        -- a further field is a message's
+        module _ (h₀ : first < length m) (l : Laid w first m) (e : n ≡ 3 → ⊥) where
+          message-only : (240 < length m) × (length m ≤ 1472)
+          message-only = go l
+            where
+              go : Laid w first m → (240 < length m) × (length m ≤ 1472)
+              go (in-message a b) = (omega arith, b)
+              go (in-none a b) = absurd (e (q ∙ ap (nextField turn) (over-none b)))
 
-        pub turning-file : (e : n ≡ 3 → ⊥) → n ≡ 1 → Turning set set″ r n 108 236
-        turning-file e o =
-            record { fd = file; is-turn = o; is-from = refl; is-to = refl; few = turning-few e; same = ap (onFrom file) (sym run-is) ∙ sym (next .at-file o) ∙ y .same }
+          turning-few : Few (65536 * n) r
+          turning-few =
+              let f = z .few (65536 * turn) (y .few) in
+              let g = turning-less e in
+              let p : length (take (to - from) (drop from m)) ≤ 65536 = omega (arith, part-length, y .inside .1, message-only .1) in
+              record { whole = omega (arith, f .whole); used = omega (arith, f .used); count = omega (arith, f .count) }
 
-        pub turning-sname : (e : n ≡ 3 → ⊥) → (n ≡ 1 → ⊥) → Turning set set″ r n 44 108
-        turning-sname e o =
-            record { fd = sname; is-turn = next .small e o; is-from = refl; is-to = refl; few = turning-few e; same = ap (onFrom sname) (sym run-is) ∙ sym (next .at-sname e o) ∙ y .same }
+          pub turning-file : n ≡ 1 → Turning set set″ r n 108 236
+          turning-file o =
+              record {
+                fd = file;
+                is-turn = o;
+                is-from = refl;
+                is-to = refl;
+                inside = (omega arith, omega (arith, message-only .0), omega arith);
+                no-over = over-none;
+                few = turning-few;
+                same = ap (onFrom file) (sym run-is) ∙ sym (next .at-file o) ∙ y .same;
+              }
+
+          pub turning-sname : (n ≡ 1 → ⊥) → Turning set set″ r n 44 108
+          turning-sname o =
+              record {
+                fd = sname;
+                is-turn = next .small e o;
+                is-from = refl;
+                is-to = refl;
+                inside = (omega arith, omega (arith, message-only .0), omega arith);
+                no-over = over-none;
+                few = turning-few;
+                same = ap (onFrom sname) (sym run-is) ∙ sym (next .at-sname e o) ∙ y .same;
+              }

@@ -13,7 +13,7 @@ use Rattle.options.specs.CodeSet.{marked, withMark}
 use Rattle.options.specs.KindClaims.{AllBytes}
 use Rattle.message.specs.declared.Kept.{Kept}
 use Rattle.message.specs.Scan.{placeAfter, usedBy}
-use Rattle.message.specs.Walk.{tallied, setAfter, Run, Walk, overStop, overAfter, keptAfter, met, passed, done, stop, walkOf}
+use Rattle.message.specs.Walk.{tallied, setAfter, Run, Walk, overStop, overAfter, keptAfter, met, passed, done, stop, walkOf, outEnd}
 use Rattle.message.specs.Walking.{numberOf, othersIn}
 use Rattle.message.proofs.Walks.{other-code}
 
@@ -298,10 +298,16 @@ module _ (w : List ℕ) (marks : Bool) (want : ℕ) (y : Watching w want) where
       go true b = of fd h ih (right52 (x .body)) refl b
       go false b = no-52 s i x p seen fd (marked w (x .tag)) refl b l z e h ih
 
+  -- a field of a message needs its END
+  needs-end : (fd : Field) → outEnd (start fd) ≡ 1
+  needs-end options = refl
+  needs-end file = refl
+  needs-end sname = refl
+
   pub twin : (fd : Field) (p : Parse) → Codes p → (seen : Bool) (s : Run) → (isOptions fd ≡ true → seen ≡ not (eqb (s .kept .over) 0))
       → Judged marks want fd s (judge fd seen p) (walkOf w marks (isOptions fd) want (start fd) s p)
   unfolding judge walkOf
   twin fd ended c seen s h = (refl, adds-none marks want s, over-none-is fd s)
-  twin fd (ranOut i) c seen s h = (λ e. omega arith, refl, refl)
+  twin fd (ranOut i) c seen s h = rw (needs-end fd) (λ e. omega arith, refl, refl)
   twin fd (beyond i) c seen s h = (λ e. omega arith, refl, refl)
   twin fd (found i x p) c seen s h = found-judged fd s i x p seen (c .0) (c .1) (c .2) h (twin fd p (c .3))

@@ -17,7 +17,7 @@ use Rattle.wire.proofs.Laws.{rest, rest-none, rest-pad, rest-end, rest-last, re
 use Rattle.message.specs.declared.Kept.{Kept}
 use Rattle.message.specs.declared.Walked.{Walked}
 use Rattle.message.specs.declared.Stop.{Stop}
-use Rattle.message.specs.Walk.{tallied, setAfter, Run, Walk, overStop, overAfter, keptAfter, sizeOf, met, passed, begun, done, stop, walkOf, endedAt, stoppedAt, walkedOf, runOf, onward, Lasts, Passing, Passes, pastStop, pastSet, lastOf, Few, Walks}
+use Rattle.message.specs.Walk.{tallied, setAfter, Run, Walk, overStop, overAfter, keptAfter, sizeOf, met, passed, begun, done, stop, walkOf, endedAt, stoppedAt, outEnd, walkedOf, runOf, onward, Lasts, Passing, Passes, pastStop, pastSet, lastOf, Few, Walks}
 
 -- ---- option 52
 
@@ -128,20 +128,46 @@ module _ {w : List ℕ} {marks : Bool} {f : List ℕ} {from : ℕ} {set : List �
       go true o = rw o (stops y (lasts-long h m (omega (arith, ltb-true (length f) e o, q))))
       go false o = rw o (stops (passing-on h m q (ltb-false (length f) e o) refl refl (omega (arith, tally-one marks))) (lasts-end f e l))
 
+-- where 52 is not watched, none is met
+pub walk-no-over : (w : List ℕ) (marks main : Bool) (want base : ℕ) → marked w 52 ≡ false → (p : Parse) (s : Run) → s .kept .over ≡ 0
+    → walkOf w marks main want base s p .run .kept .over ≡ 0
+unfolding walkOf
+walk-no-over w marks main want base h ended s z = z
+walk-no-over w marks main want base h (ranOut i) s z = z
+walk-no-over w marks main want base h (beyond i) s z = refl
+walk-no-over w marks main want base h (found i x p) s z =
+    go (marked w (x .tag)) refl (eqb (overStop main (s .kept .over) (x .tag) (x .body)) 0)
+    (walk-no-over w marks main want base h p (met want base s i x)) (walk-no-over w marks main want base h p (passed marks s x) z)
+  where
+    on : Walk
+    on = walkOf w marks main want base (met want base s i x) p
+
+    past : Walk
+    past = walkOf w marks main want base (passed marks s x) p
+
+    over : marked w (x .tag) ≡ true → overAfter (s .kept .over) (x .tag) (x .body) ≡ 0
+    over e = rw (ne-eqb (x .tag) 52 (λ q. other-code w 52 (x .tag) h e (sym q))) z
+
+    go : (b : Bool) → marked w (x .tag) ≡ b → (c : Bool) → (overAfter (s .kept .over) (x .tag) (x .body) ≡ 0 → on .run .kept .over ≡ 0) → past .run .kept .over ≡ 0
+        → cond b (cond c on (stop s (overStop main (s .kept .over) (x .tag) (x .body)) (base + i))) past .run .kept .over ≡ 0
+    go true e true f g = f (over e)
+    go true e false f g = refl
+    go false e c f g = g
+
 -- ---- the end of a field
 
 module _ (f : List ℕ) (i base used count : ℕ) (kept : Kept) where
-  pub last-none : length f ≤ i → endedAt 1 (base + i) used count kept ≡ lastOf base used count kept (rest f i)
+  pub last-none : length f ≤ i → endedAt (outEnd base) (base + i) used count kept ≡ lastOf base used count kept (rest f i)
   last-none h = rw (rest-none f i h)
 
   module _ (h : i < length f) where
     pub last-end : getD f i 0 ≡ 255 → endedAt 0 0 used count kept ≡ lastOf base used count kept (rest f i)
     last-end e = rw (rest-end f i h e)
 
-    pub last-pad : Lasts f i → getD f i 0 ≡ 0 → endedAt 1 (base + (i + 1)) used count kept ≡ lastOf base used count kept (rest f i)
+    pub last-pad : Lasts f i → getD f i 0 ≡ 0 → endedAt (outEnd base) (base + (i + 1)) used count kept ≡ lastOf base used count kept (rest f i)
     last-pad y e = go (decLt (i + 1) (length f))
       where
-        go : Dec (i + 1 < length f) → endedAt 1 (base + (i + 1)) used count kept ≡ lastOf base used count kept (rest f i)
+        go : Dec (i + 1 < length f) → endedAt (outEnd base) (base + (i + 1)) used count kept ≡ lastOf base used count kept (rest f i)
         go (yes l) = absurd (y .no-mark l .0 e)
         go (no l) = let k : length f ≤ i + 1 = omega arith in rw (rest-pad f i h e, rest-none f (i + 1) k)
 
@@ -206,34 +232,34 @@ module _ {w : List ℕ} {marks main : Bool} {want base : ℕ} {f : List ℕ} {s 
 
   -- how a walk ends that has come to i
   ends : (k′ : Walk) → walkOf w marks main want base run (rest f i) ≡ k′ → (r : Walked) → r ≡ walkedOf k′ → k′ .run .set ≡ set′
-      → ((n : ℕ) → Few n s → Few (n + 65536) (walkedOf k′)) → Walks w marks main want base f s set r set′
+      → ((n : ℕ) → Few n s → Few (n + length f) (walkedOf k′)) → Walks w marks main want base f s set r set′
   ends k′ q r e z few =
       record {
         is = e ∙ ap walkedOf (sym q ∙ y .same);
         codes = sym z ∙ ap (λ (x : Walk). x .run .set) (sym q ∙ y .same);
-        few = λ n h. subst (Few (n + 65536)) (sym e) (few n h);
+        few = λ n h. subst (Few (n + length f)) (sym e) (few n h);
       }
 
-  few-done : length f ≤ 65536 → (a b n : ℕ) → Few n s → Few (n + 65536) (walkedOf (done run a b))
-  few-done l a b n h =
+  few-done : (a b n : ℕ) → Few n s → Few (n + length f) (walkedOf (done run a b))
+  few-done a b n h =
       record {
         whole = omega (arith, h .whole, y .few-whole, y .at-in);
         used = omega (arith, h .used, y .at-in);
         count = omega (arith, h .count, y .few-count, y .at-in);
       }
 
-  few-stop : (a b n : ℕ) → Few n s → Few (n + 65536) (walkedOf (stop run a b))
+  few-stop : (a b n : ℕ) → Few n s → Few (n + length f) (walkedOf (stop run a b))
   few-stop a b n h = record { whole = omega arith; used = omega arith; count = omega arith }
 
-  walk-last : (p : Parse) → NotFound p → rest f i ≡ p → (r : Walked) → r ≡ lastOf base (s .used + (i - pads)) count k p → length f ≤ 65536 → Walks w marks main want base f s set r set′
+  walk-last : (p : Parse) → NotFound p → rest f i ≡ p → (r : Walked) → r ≡ lastOf base (s .used + (i - pads)) count k p → Walks w marks main want base f s set r set′
   unfolding walkOf
-  walk-last ended n q r e l = ends (done run 0 0) (ap (walkOf w marks main want base run) q) r e refl (few-done l 0 0)
-  walk-last (ranOut j) n q r e l = ends (done run 1 (base + j)) (ap (walkOf w marks main want base run) q) r e refl (few-done l 1 (base + j))
-  walk-last (beyond j) n q r e l = ends (stop run 2 (base + j)) (ap (walkOf w marks main want base run) q) r e refl (few-stop 2 (base + j))
-  walk-last (found j x p) n q r e l = absurd n
+  walk-last ended n q r e = ends (done run 0 0) (ap (walkOf w marks main want base run) q) r e refl (few-done 0 0)
+  walk-last (ranOut j) n q r e = ends (done run (outEnd base) (base + j)) (ap (walkOf w marks main want base run) q) r e refl (few-done (outEnd base) (base + j))
+  walk-last (beyond j) n q r e = ends (stop run 2 (base + j)) (ap (walkOf w marks main want base run) q) r e refl (few-stop 2 (base + j))
+  walk-last (found j x p) n q r e = absurd n
 
-  pub going-last : Lasts f i → (r : Walked) → r ≡ lastOf base (s .used + (i - pads)) count k (rest f i) → length f ≤ 65536 → Walks w marks main want base f s set r set′
-  going-last z r e l = walk-last (rest f i) (lasts-none f i z) refl r e l
+  pub going-last : Lasts f i → (r : Walked) → r ≡ lastOf base (s .used + (i - pads)) count k (rest f i) → Walks w marks main want base f s set r set′
+  going-last z r e = walk-last (rest f i) (lasts-none f i z) refl r e
 
   module _ (h : i + 1 < length f) where
     h′ : i < length f
@@ -242,9 +268,9 @@ module _ {w : List ℕ} {marks main : Bool} {want base : ℕ} {f : List ℕ} {s 
     abbrev code : ℕ
     code = getD f i 0
 
-    pub going-end : code ≡ 255 → (r : Walked) → r ≡ endedAt 0 0 (s .used + (i - pads)) count k → length f ≤ 65536 → Walks w marks main want base f s set r set′
+    pub going-end : code ≡ 255 → (r : Walked) → r ≡ endedAt 0 0 (s .used + (i - pads)) count k → Walks w marks main want base f s set r set′
     unfolding walkOf
-    going-end e r q l = ends (done run 0 0) (ap (walkOf w marks main want base run) (rest-end f i h′ e)) r q refl (few-done l 0 0)
+    going-end e r q = ends (done run 0 0) (ap (walkOf w marks main want base run) (rest-end f i h′ e)) r q refl (few-done 0 0)
 
     pub going-pads : code ≡ 0 → (j : ℕ) → i + 1 ≤ j → j ≤ length f → rest f j ≡ rest f (i + 1) → Going w marks main want base f s set k count (pads + (j - i)) j set′
     going-pads e j a b q =

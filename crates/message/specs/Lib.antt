@@ -3,6 +3,7 @@ pub mod Fields
 pub mod Part
 pub mod Active
 pub mod Scan
+pub mod Items
 -- Internals
 pub mod Walk
 pub mod Walking

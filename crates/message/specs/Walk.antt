@@ -27,7 +27,7 @@ pub record Run : Type 0 where
   pub used : ℕ
   pub count : ℕ
 
--- what was met when the walk ended, how (0: END; 1: no more bytes; 2: an option runs past; 3: a wrong option 52; 4: a second one) and where
+-- what was met when the walk ended, how (0: END; 1: no more bytes, and END is needed; 2: an option runs past; 3: a wrong option 52; 4: a second one) and where
 pub record Walk : Type 0 where
   pub run : Run
   pub end : ℕ
@@ -76,10 +76,14 @@ done s n p = record { run = s; end = n; place = p }
 abbrev pub stop : Run → ℕ → ℕ → Walk
 stop s n p = done (begun (s .set)) n p
 
+-- how a walk ends where the bytes run out: a message's field needs its END; bytes that begin at 0 are no message's, and "running out between items also ends" (request 05)
+abbrev pub outEnd : ℕ → ℕ
+outEnd base = cond (eqb base 0) 0 1
+
 -- in the options field or in another (main), of a field that begins at base
 unfoldable pub walkOf : List ℕ → Bool → Bool → ℕ → ℕ → Run → Parse → Walk
 walkOf w marks main want base s ended = done s 0 0
-walkOf w marks main want base s (ranOut i) = done s 1 (base + i)
+walkOf w marks main want base s (ranOut i) = done s (outEnd base) (base + i)
 walkOf w marks main want base s (beyond i) = stop s 2 (base + i)
 walkOf w marks main want base s (found i x rest) =
     let on : Walk = walkOf w marks main want base (met want base s i x) rest in
@@ -135,7 +139,7 @@ pastSet marks f e set c = cond (ltb (length f) e) set (setAfter marks set c)
 -- how a walk ends where no watched option is left
 abbrev pub lastOf : ℕ → ℕ → ℕ → Kept → Parse → Walked
 lastOf base used count kept ended = endedAt 0 0 used count kept
-lastOf base used count kept (ranOut i) = endedAt 1 (base + i) used count kept
+lastOf base used count kept (ranOut i) = endedAt (outEnd base) (base + i) used count kept
 lastOf base used count kept (beyond i) = stoppedAt 2 (base + i)
 lastOf base used count kept (found i x rest) = stoppedAt 0 0
 
@@ -149,4 +153,4 @@ pub record Few (n : ℕ) (s : Walked) : Type 0 where
 pub record Walks (w : List ℕ) (marks main : Bool) (want base : ℕ) (f : List ℕ) (s : Walked) (set : List ℕ) (r : Walked) (set′ : List ℕ) : Type 0 where
   pub is : r ≡ walkedOf (walkOf w marks main want base (runOf set s) (parse 0 0 f))
   pub codes : set′ ≡ walkOf w marks main want base (runOf set s) (parse 0 0 f) .run .set
-  pub few : (n : ℕ) → Few n s → Few (n + 65536) r
+  pub few : (n : ℕ) → Few n s → Few (n + length f) r

@@ -1,18 +1,20 @@
 // One walk over a whole message (document 01, The message and its fields): the length and the cookie, then options, file and sname.
 ghost use mathlib.Core.Path.{_≡_};
 ghost use mathlib.Core.Bool.{Bool, true, cond, not};
-ghost use Prim.Native.Nat.{_+_, _-_, _<_, _≤_};
+ghost use Prim.Native.Nat.{_+_, _-_, _<_, _≤_, _^_};
 ghost use lib.Dec.{eqb};
 ghost use lib.ListN.{length, take, drop};
 ghost use Rattle.options.specs.Message.{start, bytes, cookie};
 ghost use Rattle.options.specs.Reading.{same, parse, right52, fileIn, snameIn};
 ghost use Rattle.options.specs.CodeSet.{marked};
+ghost use Rattle.options.specs.Vendor.{itemsIn};
 ghost use Rattle.message.specs.Fields.{fieldOf};
 ghost use Rattle.message.specs.Active.{activeIn};
 ghost use Rattle.message.specs.Part.{partAt};
 ghost use Rattle.message.specs.Scan.{refusedAt, scanOf, Surveys};
-ghost use Rattle.message.specs.Walk.{tallied, setAfter, pastStop, pastSet, Passes, overStop, overAfter, keptAfter, stoppedAt, endedAt, Lasts, lastOf, Few, Walks};
-ghost use Rattle.message.specs.Walking.{unfitOf, afterFile, afterOptions, nextField, numberOf, scannedOf, Gives, Scans};
+ghost use Rattle.message.specs.Items.{measureOf};
+ghost use Rattle.message.specs.Walk.{tallied, setAfter, pastStop, pastSet, Passes, overStop, overAfter, keptAfter, stoppedAt, endedAt, outEnd, Lasts, lastOf, Few, Walks};
+ghost use Rattle.message.specs.Walking.{unfitOf, afterFile, afterOptions, nextField, numberOf, scannedOf, Laid, Gives, lowWatched, Bare, Tells};
 
 pub enum Field {
     Options,
@@ -142,7 +144,7 @@ fn watches(watched: &[u64; 4], c: u8) -> bool
 
 // Puts a code into the set and counts it, where options are marked.
 fn mark_if(marks: bool, set: &mut [u64; 4], c: u8, count: usize) -> usize
-    requires { ⌜ count ≤ 65536 ⌝ }
+    requires { ⌜ count ≤ 2 ^ 63 ⌝ }
     ensures { λ r. ⌜ (r ≡ count + tallied marks 1) × (now (set .exit) ≡ setAfter marks (now (set .entry)) c) ⌝ }
 {
     if !marks {
@@ -162,7 +164,7 @@ fn pass(
     end: usize,
     from: usize,
 ) -> Stop
-    requires { ⌜ (from ≤ length (now f)) × (length (now f) ≤ 65536) × (end ≡ length (now f) - 1) × (marked (now watched) 0 ≡ true) × (marked (now watched) 255 ≡ true) ⌝ }
+    requires { ⌜ (from ≤ length (now f)) × (length (now f) ≤ 2 ^ 63) × (end ≡ length (now f) - 1) × (marked (now watched) 0 ≡ true) × (marked (now watched) 255 ≡ true) ⌝ }
     ensures { λ r. ⌜ Passes (now (watched .entry)) marks (now (f .entry)) from (now (set .entry)) r (now (set .exit)) ⌝ }
 {
     let mut i = from;
@@ -202,7 +204,7 @@ fn past(
     c: u8,
     count: usize,
 ) -> Stop
-    requires { ⌜ count ≤ 65536 ⌝ }
+    requires { ⌜ count ≤ 2 ^ 63 ⌝ }
     ensures { λ r. ⌜ (r ≡ pastStop marks (now (f .entry)) i next count) × (now (set .exit) ≡ pastSet marks (now (f .entry)) next (now (set .entry)) c) ⌝ }
 {
     if f.len() < next {
@@ -297,7 +299,7 @@ fn over_after(over: u32, c: u8, d: &[u8]) -> u32
 // What is kept after a watched option with this code and data, whose code byte stands at the offset i of the field that begins at base. Of the first piece it
 // is the data's start, of the last the code byte: with a place of one kind for both the compiler would make all of this also where another code is met.
 fn kept_after(want: u8, k: Kept, c: u8, base: usize, i: usize, d: &[u8]) -> Kept
-    requires { ⌜ (k .whole ≤ 4294967296) × (length (now d) ≤ 65536) × (base ≤ 240) × (i ≤ 65536) ⌝ }
+    requires { ⌜ (k .whole ≤ 2 ^ 63 + 1000000) × (length (now d) ≤ 255) × (base ≤ 240) × (i ≤ 2 ^ 63) ⌝ }
     ensures { λ r. ⌜ r ≡ keptAfter want k c base i (now (d .entry)) ⌝ }
 {
     let over = over_after(k.over, c, d);
@@ -357,20 +359,27 @@ fn ended(end: u32, place: usize, used: usize, count: usize, kept: Kept) -> Walke
     }
 }
 
+// How a walk ends where the bytes run out. A field of a message needs its END; bytes that begin at 0 are no message's, and need none: 0, as at END.
+fn ran_out(base: usize) -> u32
+    ensures { λ r. ⌜ r ≡ outEnd base ⌝ }
+{
+    if base == 0 { 0 } else { 1 }
+}
+
 // How a walk ends where no watched option is left, at an offset of a field.
 fn last(f: &[u8], i: usize, base: usize, used: usize, count: usize, kept: Kept) -> Walked
-    requires { ⌜ (i ≤ length (now f)) × (length (now f) ≤ 65536) × (base ≤ 240) × Lasts (now f) i ⌝ }
+    requires { ⌜ (i ≤ length (now f)) × (length (now f) ≤ 2 ^ 63) × (base ≤ 240) × Lasts (now f) i ⌝ }
     ensures { λ r. ⌜ r ≡ lastOf base used count kept (parse i 0 (drop i (now (f .entry)))) ⌝ }
 {
     if f.len() <= i {
-        return ended(1, base + i, used, count, kept);
+        return ended(ran_out(base), base + i, used, count, kept);
     }
     let c = f[i];
     if c == 255 {
         return ended(0, 0, used, count, kept);
     }
     if c == 0 {
-        return ended(1, base + (i + 1), used, count, kept);
+        return ended(ran_out(base), base + (i + 1), used, count, kept);
     }
     stopped(2, base + i)
 }
@@ -387,7 +396,7 @@ fn walk(
     f: &[u8],
     s: Walked,
 ) -> Walked
-    requires { ⌜ (0 < length (now f)) × (length (now f) ≤ 65536) × (base ≤ 240) × (marked (now watched) 0 ≡ true) × (marked (now watched) 255 ≡ true) × Few 1000000 s ⌝ }
+    requires { ⌜ (0 < length (now f)) × (length (now f) ≤ 2 ^ 63) × (base ≤ 240) × (marked (now watched) 0 ≡ true) × (marked (now watched) 255 ≡ true) × Few 1000000 s ⌝ }
     ensures { λ r. ⌜ Walks (now (watched .entry)) marks options want base (now (f .entry)) s (now (set .entry)) r (now (set .exit)) ⌝ }
 {
     let mut k = s.kept;
@@ -484,15 +493,23 @@ fn next_field(turn: usize, over: u32) -> usize
     3
 }
 
-// Walks the fields one after another: options, and file and sname where option 52 makes them active. The walk is called at one place, so that it is compiled
-// into this function.
-fn fields(watched: &[u64; 4], marks: bool, set: &mut [u64; 4], want: u8, m: &[u8]) -> Walked
-    requires { ⌜ (240 < length (now m)) × (length (now m) ≤ 1472) × (marked (now watched) 0 ≡ true) × (marked (now watched) 255 ≡ true) ⌝ }
-    ensures { λ r. ⌜ Gives (now (watched .entry)) marks want (now (m .entry)) (now (set .entry)) r (now (set .exit)) ⌝ }
+// Walks the fields one after another: the one that begins at first and goes on to the end, which is options, and file and sname where option 52 makes them
+// active. Where 52 is not watched, as in bytes that are no message's, it makes none active. The walk is called at one place, so that it is compiled into
+// this function.
+fn fields(
+    watched: &[u64; 4],
+    marks: bool,
+    set: &mut [u64; 4],
+    want: u8,
+    first: usize,
+    m: &[u8],
+) -> Walked
+    requires { ⌜ (first < length (now m)) × (length (now m) ≤ 2 ^ 63) × (marked (now watched) 0 ≡ true) × (marked (now watched) 255 ≡ true) × Laid (now watched) first (now m) ⌝ }
+    ensures { λ r. ⌜ Gives (now (watched .entry)) marks want first (now (m .entry)) (now (set .entry)) r (now (set .exit)) ⌝ }
 {
     let mut s = stopped(0, 0);
     let mut turn: usize = 0;
-    let mut from: usize = 240;
+    let mut from: usize = first;
     let mut to: usize = m.len();
     loop {
         s = walk(watched, marks, set, turn == 0, want, from, &m[from..to], s);
@@ -579,23 +596,44 @@ fn told(marks: bool, s: Walked) -> Scanned
     }
 }
 
-// Walks the message once. `marks`: every code is put into the set.
-fn scan(m: &[u8], want: u8, marks: bool, set: &mut [u64; 4]) -> Scanned
-    ensures { λ r. ⌜ Scans marks want (now (m .entry)) (now (set .entry)) r (now (set .exit)) ⌝ }
+// Length and cookie are judged of a message alone.
+fn unfit_message(bare: bool, m: &[u8]) -> u32
+    ensures { λ r. ⌜ r ≡ cond bare 0 (unfitOf (now (m .entry))) ⌝ }
 {
-    let number = unfit(m);
+    if bare {
+        return 0;
+    }
+    unfit(m)
+}
+
+// Where the first field begins.
+fn first_place(bare: bool) -> usize
+    ensures { λ r. ⌜ r ≡ cond bare 0 240 ⌝ }
+{
+    if bare { 0 } else { 240 }
+}
+
+// Walks the message once. low: the watched codes below 64, pads and option 52. Where that is pads alone, m is bytes that hold items as a field holds options,
+// but are no message's (bare): 52 is a code like any other there, and no END is needed. marks: every code is put into the set.
+fn scan(m: &[u8], want: u8, marks: bool, low: u64, set: &mut [u64; 4]) -> Scanned
+    requires { ⌜ (low ≡ lowWatched (eqb low 1)) × Bare (eqb low 1) marks want (now m) ⌝ }
+    ensures { λ r. ⌜ Tells (eqb low 1) marks want (now (m .entry)) (now (set .entry)) r (now (set .exit)) ⌝ }
+{
+    let bare = low == 1;
+    let number = unfit_message(bare, m);
     if number != 0 {
         return refused(number, unfit_place(m, number));
     }
     // A walk looks at a field of one byte or more.
-    if m.len() == 240 {
-        return refused(5, 240);
+    let first = first_place(bare);
+    if m.len() == first {
+        return refused(5, first);
     }
-    // Pads, END and option 52, and the code that is wanted.
-    let mut watched = [4503599627370497, 0, 0, 9223372036854775808];
+    // These, END and the code that is wanted.
+    let mut watched = [low, 0, 0, 9223372036854775808];
     let k = codeset::word(want);
     watched[k] = watched[k] | (1u64 << (want % 64));
-    told(marks, fields(&watched, marks, set, want, m))
+    told(marks, fields(&watched, marks, set, want, first, m))
 }
 
 // Looks for the pieces of a code: the message is walked once.
@@ -603,7 +641,7 @@ pub fn find(m: &[u8], want: u8) -> Scanned
     ensures { λ r. ⌜ r ≡ scanOf want (now (m .entry)) ⌝ }
 {
     let mut set = [0; 4];
-    scan(m, want, false, &mut set)
+    scan(m, want, false, 4503599627370497, &mut set)
 }
 
 // The codes of a message, and the size and number of its options: the message is walked once. The lent set becomes that of its codes; a refusal leaves it
@@ -612,7 +650,7 @@ pub fn codes(m: &[u8], set: &mut [u64; 4]) -> Scanned
     ensures { λ r. ⌜ Surveys (now (m .entry)) r (now (set .exit)) ⌝ }
 {
     *set = [0; 4];
-    let s = scan(m, 52, true, set);
+    let s = scan(m, 52, true, 4503599627370497, set);
     if s.number != 0 {
         *set = [0; 4];
         return s;
@@ -622,4 +660,31 @@ pub fn codes(m: &[u8], set: &mut [u64; 4]) -> Scanned
         codeset::mark(set, 52);
     }
     s
+}
+
+// Of bytes that hold items as a field holds options: whether one runs past them, and its offset; else the bytes that all take as records.
+pub struct Measured {
+    pub past: bool,
+    pub place: usize,
+    pub size: usize,
+}
+
+// Judges the items of vendor information (document 02, request 05), and measures them, in one walk: the one that judges the fields of a message.
+pub fn items(f: &[u8]) -> Measured
+    ensures { λ r. ⌜ r ≡ measureOf (itemsIn (parse 0 0 (now (f .entry)))) ⌝ }
+{
+    if f.len() == 0 {
+        return Measured {
+            past: false,
+            place: 0,
+            size: 0,
+        };
+    }
+    let mut set = [0; 4];
+    let s = scan(f, 0, true, 1, &mut set);
+    Measured {
+        past: s.number != 0,
+        place: s.place,
+        size: s.used + s.count,
+    }
 }

@@ -45,16 +45,16 @@ kept r (faulty n p) rs e = clash (cc)
 sound-inj : (rs ts : List Rec) → sound rs ≡ sound ts → rs ≡ ts
 sound-inj rs ts e = cc
 
-neither : (a b : Bool) → either a b ≡ false → (a ≡ false) × (b ≡ false)
+pub neither : (a b : Bool) → either a b ≡ false → (a ≡ false) × (b ≡ false)
 neither true b e = clash (cc)
 neither false b e = (refl, e)
 
 -- a walk that no rule refuses: its records, each with what keeps the rules
-data Passes (rules : List Rule) : List ℕ → Walk → List Rec → Type 0 where
+pub data Passes (rules : List Rule) : List ℕ → Walk → List Rec → Type 0 where
   p-none : {seen : List ℕ} → Passes rules seen allRead []
   p-record : {seen : List ℕ} {i : ℕ} {r : Rec} {w : Walk} {rs : List Rec} → Kept rules seen r → Passes rules (r .tag ∷ seen) w rs → Passes rules seen (readAt i r w) (r ∷ rs)
 
-passes : (rules : List Rule) (seen : List ℕ) (w : Walk) (rs : List Rec) → ruled rules seen w ≡ sound rs → Passes rules seen w rs
+pub passes : (rules : List Rule) (seen : List ℕ) (w : Walk) (rs : List Rec) → ruled rules seen w ≡ sound rs → Passes rules seen w rs
 unfolding ruled
 passes rules seen allRead rs e = subst (Passes rules seen allRead) (sound-inj [] rs e) p-none
 passes rules seen (cutAt i) rs e = clash (cc)

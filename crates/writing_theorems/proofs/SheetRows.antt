@@ -37,15 +37,15 @@ module _ {s : List ℕ} {i : ℕ} where
 
 -- ---- places, with the tags met before
 
-reached-begins : {s seen : List ℕ} {i : ℕ} → Reached s seen i → RecordBegins s i
+pub reached-begins : {s seen : List ℕ} {i : ℕ} → Reached s seen i → RecordBegins s i
 reached-begins at-first = first
 reached-begins (behind r o) = after-record (reached-begins r) o
 
-record Reaches (s : List ℕ) (i : ℕ) : Type 0 where
-  seen : List ℕ
-  reached : Reached s seen i
+pub record Reaches (s : List ℕ) (i : ℕ) : Type 0 where
+  pub seen : List ℕ
+  pub reached : Reached s seen i
 
-reaches : {s : List ℕ} {i : ℕ} → RecordBegins s i → Reaches s i
+pub reaches : {s : List ℕ} {i : ℕ} → RecordBegins s i → Reaches s i
 reaches first = record { seen = []; reached = at-first }
 reaches (after-record {c = c} b o) = let r = reaches b in record { seen = c ∷ r .seen; reached = behind (r .reached) o }
 

@@ -2,7 +2,7 @@
 //! signatures, so that single calls of it can be counted.
 
 use crate::rules::answers::{Codes, Content, Lookup, Origin, Part, Refusal, RollCall, Several};
-use crate::rules::{reading, writing};
+use crate::rules::{reading, vendor, writing};
 use std::slice;
 
 /// status: 0 absent, 1 unknown, 2 refused, 3 a number, 4 a part, 5 broken.
@@ -257,4 +257,30 @@ pub unsafe extern "C" fn independent_write(
     permission: u8,
 ) -> Wrote {
     writing::write(lent(sheet, n), lent_mut(m, room), permission).into()
+}
+
+/// # Safety
+/// `bytes` points to `n` readable bytes, `out` to `room` bytes lent to this
+/// call alone.
+#[no_mangle]
+pub unsafe extern "C" fn independent_vendor_records(
+    bytes: *const u8,
+    n: usize,
+    out: *mut u8,
+    room: usize,
+) -> Filled {
+    vendor::records(lent(bytes, n), lent_mut(out, room)).into()
+}
+
+/// # Safety
+/// `sheet` points to `n` readable bytes, `out` to `room` bytes lent to this
+/// call alone.
+#[no_mangle]
+pub unsafe extern "C" fn independent_vendor_write(
+    sheet: *const u8,
+    n: usize,
+    out: *mut u8,
+    room: usize,
+) -> Filled {
+    vendor::write(lent(sheet, n), lent_mut(out, room)).into()
 }

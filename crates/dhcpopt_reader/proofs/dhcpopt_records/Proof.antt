@@ -1,21 +1,21 @@
 -- `dhcpopt_reader::dhcpopt_records` meets its contract. Assumes nothing.
 use borrow.Author.Needs.{needs}
 use mathlib.Core.Path.{ap, _∙_}
-use Rattle.dhcpopt_reader.specs.Plain.{plainFilled}
+use Rattle.filled.specs.Plain.{plainFilled}
 use Rattle.dhcpopt_reader.proofs.dhcpopt_records.Statement.{statement}
 use Rattle.dhcpopt_reader.proofs.dhcpopt_records.Tie as tie
 
 records-requires : tie.Need-records-requires
 records-requires c κs = search needs
 
-of-given-requires : tie.Need-of-given-requires
-of-given-requires c κs = search needs
+plain-requires : tie.Need-plain-requires
+plain-requires c κs = search needs
 
 same-length : tie.Need-same-length
 same-length c = search needs
 
 returns : tie.Need-returns
-returns c = (c .of-given .ensures ∙ ap plainFilled (c .before .before .before .records .ensures .answer), c .before .before .before .records .ensures .buffer)
+returns c = (c .plain .ensures ∙ ap plainFilled (c .before .before .before .records .ensures .answer), c .before .before .before .records .ensures .buffer)
 
 pub dhcpopt-records-spec : {M : Type 1} → statement M
-dhcpopt-records-spec = tie.close (tie.spec records-requires of-given-requires same-length returns)
+dhcpopt-records-spec = tie.close (tie.spec records-requires plain-requires same-length returns)

@@ -10,6 +10,9 @@ use Rattle.message.proofs.Walks.{last-none, last-end, last-pad, last-cu
 use Rattle.message.proofs.last.Statement.{statement}
 use Rattle.message.proofs.last.Tie as tie
 
+ran-out-requires : tie.Need-ran-out-requires
+ran-out-requires c κs = search needs
+
 add-ended : tie.Need-add-ended
 add-ended c = search needs
 
@@ -17,7 +20,10 @@ ended-requires : tie.Need-ended-requires
 ended-requires c κs = search needs
 
 returns : tie.Need-returns
-returns c = let a = c .before .before .before .args in c .ended .ensures ∙ last-none (a .f .now) (a .i) (a .base) (a .used) (a .count) (a .kept) (c .before .if1 .taken)
+returns c =
+    let o = c .before in
+    let a = o .before .before .before .args in
+    c .ended .ensures ∙ rw (o .ran-out .ensures) (last-none (a .f .now) (a .i) (a .base) (a .used) (a .count) (a .kept) (o .before .if1 .taken))
 
 shared-slice-read-c : tie.Need-shared-slice-read-c
 shared-slice-read-c c = search needs
@@ -31,6 +37,9 @@ returns-2 c =
     let a = s .args in
     c .ended2 .ensures ∙ last-end (a .f .now) (a .i) (a .base) (a .used) (a .count) (a .kept) (c .before .before .before .if1 .left) (c .before .if2 .taken)
 
+ran-out-requires-2 : tie.Need-ran-out-requires-2
+ran-out-requires-2 c κs = search needs
+
 add-ended-2 : tie.Need-add-ended-2
 add-ended-2 c = search needs
 
@@ -42,10 +51,11 @@ ended-requires-3 c κs = search needs
 
 returns-3 : tie.Need-returns-3
 returns-3 c =
-    let e = c .before .before .before .before in
+    let o = c .before in
+    let e = o .before .before .before .before in
     let s = e .before .before in
     let a = s .args in
-    c .ended3 .ensures ∙ last-pad (a .f .now) (a .i) (a .base) (a .used) (a .count) (a .kept) (e .if1 .left) (s .pre .3) (c .before .if3 .taken)
+    c .ended3 .ensures ∙ rw (o .ran-out2 .ensures) (last-pad (a .f .now) (a .i) (a .base) (a .used) (a .count) (a .kept) (e .if1 .left) (s .pre .3) (o .before .if3 .taken))
 
 add-stopped : tie.Need-add-stopped
 add-stopped c = search needs
@@ -64,12 +74,14 @@ pub last-spec : {M : Type 1} → statement M
 last-spec =
     tie.close
     (tie.spec
+    ran-out-requires
     add-ended
     ended-requires
     returns
     shared-slice-read-c
     ended-requires-2
     returns-2
+    ran-out-requires-2
     add-ended-2
     add-ended-3
     ended-requires-3

@@ -1,25 +1,26 @@
 -- `message::scan` meets its contract. Assumes nothing.
 use borrow.Author.Needs.{needs}
 use native.Mathlib.Omega.{arith}
-use mathlib.Core.Path.{_≡_, refl, sym, ap, _∙_}
-use mathlib.Core.Bool.{true, false}
+use mathlib.Core.Path.{_≡_, sym, _∙_}
+use mathlib.Core.Bool.{cond}
+use lib.Dec.{eqb}
 use Prim.Native.Nat.{ℕ, _<_, _≤_, _%_}
-use lib.ListN.{length}
-use Rattle.options.specs.Reading.{readMessage, refused}
-use Rattle.options.specs.CodeSet.{withMark}
 use Rattle.codeset.proofs.Words.{one-shl}
 use Rattle.message.specs.Walking.{unfitOf}
 use Rattle.message.proofs.Twin.{all-bytes}
-use Rattle.message.proofs.Watch.{always, still, watching}
-use Rattle.message.proofs.Readings.{fit-length, read-unfit, read-bare, scans-refused, scans-walked}
+use Rattle.message.proofs.Bare.{tells-unfit, tells-short, walkable, tells-walked}
 use Rattle.message.proofs.scan.Statement.{statement}
 use Rattle.message.proofs.scan.Tie as tie
 
-byte-in : (c : tie.After-watched) → c .before .before .before .before .before .before .args .want < 256
+byte-in : (c : tie.Else2) → c .before .before .before .before .before .args .want < 256
 byte-in c = search needs
 
-unfit-requires : tie.Need-unfit-requires
-unfit-requires c κs = search needs
+-- length and cookie are in order
+fit : (c : tie.Else1) → cond (eqb (c .before .before .before .args .low) 1) 0 (unfitOf (c .before .before .before .args .m .now)) ≡ 0
+fit c = sym (c .before .unfit-message .ensures) ∙ c .if1 .left
+
+unfit-message-requires : tie.Need-unfit-message-requires
+unfit-message-requires c κs = search needs
 
 unfit-place-requires : tie.Need-unfit-place-requires
 unfit-place-requires c κs = search needs
@@ -29,21 +30,26 @@ refused-requires c κs = search needs
 
 returns : tie.Need-returns
 returns c =
-    let u = c .before .before .before in
+    let p = c .before in
+    let u = p .before .before in
     let a = u .before .before .args in
-    let n : unfitOf (a .m .now) ≡ 0 → ⊥ = λ e. c .before .before .if1 .taken (u .unfit .ensures ∙ e) in
-    let r : readMessage (a .m .now) ≡ refused (u .unfit .result) (c .before .unfit-place .result) = rw (c .before .unfit-place .ensures, u .unfit .ensures) (read-unfit (a .m .now) n) in
-    scans-refused (a .marks) (a .want) (a .m .now) (a .set .now) (u .unfit .result) (c .before .unfit-place .result) r (c .refused .result) (c .refused .ensures)
+    tells-unfit (a .marks) (a .want) (a .m .now) (a .set .now) (eqb (a .low) 1) (u .unfit-message .result) (p .unfit-place .result) (u .unfit-message .ensures) (p .before .if1 .taken) (p .unfit-place .ensures)
+    (c .refused .result) (c .refused .ensures)
+
+first-place-requires : tie.Need-first-place-requires
+first-place-requires c κs = search needs
 
 refused-requires-2 : tie.Need-refused-requires-2
 refused-requires-2 c κs = search needs
 
 returns-2 : tie.Need-returns-2
 returns-2 c =
-    let u = c .before .before .before in
-    let a = u .before .before .args in
-    let r = read-bare (a .m .now) (sym (u .unfit .ensures) ∙ c .before .before .if1 .left) (c .before .if2 .taken) in
-    scans-refused (a .marks) (a .want) (a .m .now) (a .set .now) 5 240 r (c .refused2 .result) (c .refused2 .ensures)
+    let f = c .before .before in
+    let e = f .before in
+    let s = e .before .before .before in
+    let a = s .args in
+    tells-short (a .marks) (a .want) (a .m .now) (a .set .now) (eqb (a .low) 1) (s .pre .1) (fit e) (f .first-place .result) (f .first-place .ensures) (c .before .if2 .taken)
+    (c .refused2 .result) (c .refused2 .ensures)
 
 word-requires : tie.Need-word-requires
 word-requires c κs = search needs
@@ -69,34 +75,40 @@ array-write-watched c = search needs
 fields-requires : tie.Need-fields-requires
 fields-requires c κs =
     let k = c .before .before in
-    let e = k .before .before in
-    let u = e .before in
-    let a = u .before .before .args in
-    let f = fit-length (a .m .now) (sym (u .unfit .ensures) ∙ e .if1 .left) in
-    let b = byte-in (c .before) in
-    (omega (arith, f .0, k .before .if2 .left), f .1, rw (k .word .ensures .0, one-shl (a .want % 64) (omega arith)) (still (a .want) b 0 refl), rw (k .word .ensures .0, one-shl (a .want % 64) (omega arith)) (still (a .want) b 255 refl))
+    let n = k .before in
+    let f = n .before in
+    let e = f .before in
+    let s = e .before .before .before in
+    let a = s .args in
+    let z = walkable (a .marks) (a .want) (a .m .now) (a .set .now) (eqb (a .low) 1) (s .pre .1) (fit e) (a .low) (f .first-place .result) (s .pre .0) (f .first-place .ensures) (n .if2 .left) (byte-in n) in
+    rw (k .word .ensures .0, one-shl (a .want % 64) (omega arith)) (z .0, search needs, z .1, z .2, z .3)
 
 told-requires : tie.Need-told-requires
 told-requires c κs = search needs
 
 returns-3 : tie.Need-returns-3
 returns-3 c =
-    let v = c .before .before .before in
-    let e = v .before .before .before in
-    let u = e .before in
-    let s = u .before .before in
+    let v = c .before in
+    let k = v .before .before .before in
+    let n = k .before in
+    let f = n .before in
+    let e = f .before in
+    let s = e .before .before .before in
     let a = s .args in
-    let g = rw (v .before .word .ensures .0, one-shl (a .want % 64) (omega arith)) at (c .before .fields .ensures) in
-    scans-walked (a .marks) (a .want) (a .m .now) (a .set .now) (withMark always (a .want)) (watching (a .want) (byte-in v)) (all-bytes (a .m .now) (λ i. u .before .shared-slice-known .given i .fits)) (sym (u .unfit .ensures) ∙ e .if1 .left) (c .before .fields .result) (c .before .fields .last .1 .1 .0) g (c .told .result) (c .told .ensures)
+    let g = rw (k .word .ensures .0, one-shl (a .want % 64) (omega arith)) at (v .fields .ensures) in
+    tells-walked (a .marks) (a .want) (a .m .now) (a .set .now) (eqb (a .low) 1) (s .pre .1) (all-bytes (a .m .now) (λ i. e .before .before .shared-slice-known .given i .fits)) (fit e)
+    (a .low) (f .first-place .result) (s .pre .0) (f .first-place .ensures) (byte-in n)
+    (v .fields .result) (v .fields .last .1 .1 .0) g (c .told .result) (c .told .ensures)
 
 pub scan-spec : {M : Type 1} → statement M
 scan-spec =
     tie.close
     (tie.spec
-    unfit-requires
+    unfit-message-requires
     unfit-place-requires
     refused-requires
     returns
+    first-place-requires
     refused-requires-2
     returns-2
     word-requires

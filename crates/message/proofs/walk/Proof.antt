@@ -81,7 +81,7 @@ returns c =
     let g = gone p in
     let l = p .before .before in
     let s = l .before .before .before in
-    going-last g (p .pass .ensures .last (not-true (p .pass .result .watched) (c .before .before .if1 .taken))) (c .last .result) (c .last .ensures) (s .pre .1)
+    going-last g (p .pass .ensures .last (not-true (p .pass .result .watched) (c .before .before .if1 .taken))) (c .last .result) (c .last .ensures)
 
 shared-slice-read-c : tie.Need-shared-slice-read-c Inv-loop μ-loop
 shared-slice-read-c c =
@@ -164,7 +164,7 @@ returns-2 c =
     let g = gone p in
     let l = p .before .before in
     let s = l .before .before .before in
-    going-end g (here (c .before .before .before .before .before) .0) (c .before .before .if3 .taken) (c .ended .result) (c .ended .ensures) (s .pre .1)
+    going-end g (here (c .before .before .before .before .before) .0) (c .before .before .if3 .taken) (c .ended .result) (c .ended .ensures)
 
 add-j : tie.Need-add-j Inv-loop μ-loop
 add-j c =

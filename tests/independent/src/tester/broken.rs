@@ -106,6 +106,9 @@ fn subjects() -> Vec<(&'static str, Subject)> {
         ("refused write with a plan", Subject { write: refused_with_plan, ..own }),
         ("a refused write touches a byte", Subject { write: refusal_writes, ..own }),
         ("refused data with a start", Subject { data: empty_with_start, ..own }),
+        ("vendor records past the lent ones", Subject { vendor_records: vendor_past, ..own }),
+        ("a refused vendor write touches a byte", Subject { vendor_write: vendor_touches, ..own }),
+        ("a refused vendor write with a size", Subject { vendor_write: vendor_sized, ..own }),
     ]
 }
 
@@ -328,4 +331,22 @@ unsafe extern "C" fn refusal_writes(
 unsafe extern "C" fn empty_with_start(m: *const u8, n: usize, code: u8) -> Extent {
     let extent = boundary::independent_data(m, n, code);
     Extent { start: if extent.length == 0 { 240 } else { extent.start }, ..extent }
+}
+
+unsafe extern "C" fn vendor_past(m: *const u8, n: usize, out: *mut u8, room: usize) -> Filled {
+    *out.add(room) ^= 1;
+    boundary::independent_vendor_records(m, n, out, room)
+}
+
+unsafe extern "C" fn vendor_touches(s: *const u8, n: usize, out: *mut u8, room: usize) -> Filled {
+    let filled = boundary::independent_vendor_write(s, n, out, room);
+    if filled.refusal == 11 && room > 0 {
+        *out ^= 1;
+    }
+    filled
+}
+
+unsafe extern "C" fn vendor_sized(s: *const u8, n: usize, out: *mut u8, room: usize) -> Filled {
+    let filled = boundary::independent_vendor_write(s, n, out, room);
+    Filled { size: if filled.refusal == 11 { room + 1 } else { filled.size }, ..filled }
 }

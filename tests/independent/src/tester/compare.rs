@@ -6,7 +6,7 @@ use super::lent::Lent;
 use super::rng::Rng;
 use super::sheets::Needs;
 use super::sides::{Subject, Yardstick};
-use super::{messages, sheets};
+use super::{messages, sheets, vendor};
 use independent::rules::answers::Codes;
 use std::fmt::Debug;
 
@@ -74,8 +74,16 @@ impl Run {
         }
         let mut rng = Rng::of_case(seed, index);
         let mut bytes = std::mem::take(&mut self.bytes);
-        match rng.below(40) {
+        match rng.below(44) {
             0 => self.list_case(&mut rng, &mut bytes),
+            40 | 41 => {
+                vendor::bytes(&mut rng, &mut bytes);
+                self.vendor(&mut rng, &bytes);
+            }
+            42 | 43 => {
+                vendor::sheet(&mut rng, &mut bytes);
+                self.vendor_sheet(&mut rng, &bytes);
+            }
             1..=20 => {
                 messages::message(&mut rng, &mut bytes);
                 let all = rng.below(100) == 0;
@@ -423,6 +431,81 @@ impl Run {
             self.differ("records of a written message", &got, &hex(sheet));
         }
         self.read(rng, &message, false);
+    }
+
+    /// Reads the items of one option 43 into sheets of several lengths.
+    pub fn vendor(&mut self, rng: &mut Rng, bytes: &[u8]) {
+        self.counts.vendors += 1;
+        self.hold_input(rng, bytes);
+        let mut large = vec![0; 2 * bytes.len()];
+        let whole = (self.yardstick.vendor_records)(self.input.middle(), &mut large);
+        if whole.refusal != 0 {
+            let room = rng.pick(&[0, 0, 1, 7, 64, 2000]);
+            self.vendor_records(rng, None, room);
+        } else {
+            let size = whole.size;
+            let any = rng.below(size + 40);
+            for room in [size, size.saturating_sub(1), 0, any] {
+                self.vendor_records(rng, Some(size), room);
+            }
+        }
+        self.input_unchanged();
+    }
+
+    fn vendor_records(&mut self, rng: &mut Rng, size: Option<usize>, room: usize) {
+        self.theirs.any(rng, room);
+        self.ours.copy(&self.theirs);
+        let (m, n) = (self.input.pointer(), self.input.len());
+        let out = self.theirs.pointer();
+        let filled = unsafe { (self.subject.vendor_records)(m, n, out, room) };
+        let ours = (self.yardstick.vendor_records)(self.input.middle(), self.ours.middle_mut());
+        self.counts.vendor_records(&filled, size, room);
+        let name = || format!("vendor records into {room} bytes");
+        self.equal(name, &filled, &ours);
+        self.equal_lent(name);
+    }
+
+    /// Writes one sheet of items into outputs of several lengths.
+    pub fn vendor_sheet(&mut self, rng: &mut Rng, bytes: &[u8]) {
+        self.counts.vendors += 1;
+        let size = vendor::items(bytes);
+        let any = rng.below(300);
+        for room in [size, size.saturating_sub(1), size + 1, 0, any, 256] {
+            self.hold_input(rng, bytes);
+            self.vendor_write(rng, bytes, size, room.min(5000));
+            self.input_unchanged();
+        }
+    }
+
+    fn vendor_write(&mut self, rng: &mut Rng, sheet: &[u8], size: usize, room: usize) {
+        self.theirs.any(rng, room);
+        self.ours.copy(&self.theirs);
+        let (s, n) = (self.input.pointer(), self.input.len());
+        let out = self.theirs.pointer();
+        let filled = unsafe { (self.subject.vendor_write)(s, n, out, room) };
+        let ours = (self.yardstick.vendor_write)(self.input.middle(), self.ours.middle_mut());
+        self.counts.vendor_write(&filled, size, room);
+        let name = || format!("vendor write into {room} bytes");
+        self.equal(name, &filled, &ours);
+        self.equal_lent(name);
+        if filled.refusal == 0 && filled.size <= room {
+            self.vendor_back(rng, sheet, filled.size);
+        }
+    }
+
+    /// "Written, then read with room enough, the records come back."
+    fn vendor_back(&mut self, rng: &mut Rng, sheet: &[u8], size: usize) {
+        let given = self.theirs.middle()[..size].to_vec();
+        self.theirs.any(rng, sheet.len());
+        let room = self.theirs.len();
+        let out = self.theirs.pointer();
+        let filled = unsafe { (self.subject.vendor_records)(given.as_ptr(), size, out, room) };
+        self.counts.calls += 1;
+        self.counts.vendor_back += 1;
+        if filled.refusal != 0 || filled.size != sheet.len() || self.theirs.middle() != sheet {
+            let got = format!("{filled:?} {}", hex(self.theirs.middle()));
+            self.differ("records of written items", &got, &hex(sheet));
+        }
     }
 
     /// One message with the answer of one code.

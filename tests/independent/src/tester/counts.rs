@@ -17,7 +17,7 @@ const STATUS_FOUND: [(usize, &str); 4] =
     [(1, "unknown"), (3, "number"), (4, "part"), (5, "broken")];
 
 /// Refusals by number; at 0 the calls that were not refused.
-type Refusals = [u64; 17];
+type Refusals = [u64; 18];
 
 pub struct Counts {
     pub messages: u64,
@@ -33,6 +33,16 @@ pub struct Counts {
     copy: Refusals,
     records: Refusals,
     write: Refusals,
+    vendor_records: Refusals,
+    vendor_write: Refusals,
+    /// Lent for items: exactly, one short, longer, none at all; by call.
+    vendor_lent: [[u64; 4]; 2],
+    /// Writes of items that take 255 bytes, and 256.
+    vendor_full: [u64; 2],
+    /// Written items read back as their sheet.
+    pub vendor_back: u64,
+    /// Option 43s and sheets of items.
+    pub vendors: u64,
     /// Lookups by status and field: none, options, file, sname.
     status: [[u64; 4]; 6],
     /// Answers with a kind, by kind and field.
@@ -87,11 +97,17 @@ impl Counts {
             calls: 0,
             read_back: 0,
             split: [0; 2],
-            lookup: [0; 17],
-            present: [0; 17],
-            copy: [0; 17],
-            records: [0; 17],
-            write: [0; 17],
+            lookup: [0; 18],
+            present: [0; 18],
+            copy: [0; 18],
+            records: [0; 18],
+            write: [0; 18],
+            vendor_records: [0; 18],
+            vendor_write: [0; 18],
+            vendor_lent: [[0; 4]; 2],
+            vendor_full: [0; 2],
+            vendor_back: 0,
+            vendors: 0,
             status: [[0; 4]; 6],
             kind: [[0; 3]; 12],
             broken: [[0; 3]; 2],
@@ -267,15 +283,33 @@ impl Counts {
         }
     }
 
-    /// Messages, sheets and lists together.
+    /// `size` is what the items take as records.
+    pub fn vendor_records(&mut self, filled: &Filled, size: Option<usize>, room: usize) {
+        self.calls += 1;
+        add(&mut self.vendor_records, filled.refusal as usize);
+        add_room(&mut self.vendor_lent[0], size, room);
+    }
+
+    /// `size` is what the records take as items.
+    pub fn vendor_write(&mut self, filled: &Filled, size: usize, room: usize) {
+        self.calls += 1;
+        add(&mut self.vendor_write, filled.refusal as usize);
+        if let 0 | 11 = filled.refusal {
+            add_room(&mut self.vendor_lent[1], Some(size), room);
+            self.vendor_full[0] += u64::from(filled.refusal == 0 && size == 255);
+            self.vendor_full[1] += u64::from(filled.refusal == 11 && size == 256 && room >= 256);
+        }
+    }
+
+    /// Messages, sheets, lists and vendor information together.
     pub fn compared(&self) -> u64 {
-        self.messages + self.sheets + self.lists
+        self.messages + self.sheets + self.lists + self.vendors
     }
 
     pub fn print(&self) {
         println!(
-            "messages {}, sheets {}, address lists {}, calls {}",
-            self.messages, self.sheets, self.lists, self.calls
+            "messages {}, sheets {}, address lists {}, vendor information {}, calls {}",
+            self.messages, self.sheets, self.lists, self.vendors, self.calls
         );
         println!("written messages read back as their sheet: {}", self.read_back);
         let [pieces, across] = self.split;
@@ -285,6 +319,11 @@ impl Counts {
         print_refusals("copy", &self.copy);
         print_refusals("records", &self.records);
         print_refusals("write", &self.write);
+        print_refusals("vendor_records", &self.vendor_records);
+        print_refusals("vendor_write", &self.vendor_write);
+        println!("vendor, lent exactly, one short, longer, none: {:?}", self.vendor_lent);
+        println!("vendor, 255 bytes given, 256 refused: {:?}", self.vendor_full);
+        println!("vendor, written and read back: {}", self.vendor_back);
         let [absent, unknown, refused, number, part, broken] = self.status;
         println!("lookup: absent {}, refused {}", absent[0], refused[0]);
         println!("lookup in options, file, sname:");
@@ -354,6 +393,12 @@ impl Counts {
         missing.refusals("copy", &self.copy, &[0, 1, 2, 3, 4, 5, 6, 7, 10, 11]);
         missing.refusals("records", &self.records, &[0, 1, 2, 3, 4, 5, 6, 7, 11]);
         missing.refusals("write", &self.write, &[0, 1, 2, 7, 8, 9, 10, 11, 12, 13, 14, 15, 16]);
+        missing.refusals("vendor_records", &self.vendor_records, &[0, 11, 17]);
+        missing.refusals("vendor_write", &self.vendor_write, &[0, 10, 11, 12, 13, 16]);
+        missing.all("vendor_records lent", &self.vendor_lent[0]);
+        missing.all("vendor_write lent", &self.vendor_lent[1]);
+        missing.all("vendor_write of 255 bytes, of 256", &self.vendor_full);
+        missing.one("vendor, written and read back", self.vendor_back);
         missing.origins(&self.status);
         for (i, fields) in self.kind.iter().enumerate().skip(1) {
             missing.all(&format!("lookup kind {i} by field"), fields);

@@ -21,11 +21,13 @@ extern "C" {
     fn dhcpopt_copy(m: *const u8, n: usize, code: u8, out: *mut u8, room: usize) -> Filled;
     fn dhcpopt_present(m: *const u8, n: usize) -> Present;
     fn dhcpopt_records(m: *const u8, n: usize, out: *mut u8, room: usize) -> Filled;
+    fn dhcpopt_vendor_records(bytes: *const u8, n: usize, out: *mut u8, room: usize) -> Filled;
 }
 
 #[link(name = "dhcpopt_writer", kind = "static")]
 extern "C" {
     fn dhcpopt_write(sheet: *const u8, n: usize, m: *mut u8, room: usize, permission: u8) -> Wrote;
+    fn dhcpopt_vendor_write(sheet: *const u8, n: usize, out: *mut u8, room: usize) -> Filled;
 }
 
 pub fn library() -> Subject {
@@ -38,5 +40,7 @@ pub fn library() -> Subject {
         present: dhcpopt_present,
         records: dhcpopt_records,
         write: dhcpopt_write,
+        vendor_records: dhcpopt_vendor_records,
+        vendor_write: dhcpopt_vendor_write,
     }
 }

@@ -12,3 +12,4 @@ mod rng;
 mod sheets;
 pub mod sides;
 mod values;
+mod vendor;

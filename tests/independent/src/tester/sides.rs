@@ -18,6 +18,8 @@ pub struct Subject {
     pub present: unsafe extern "C" fn(*const u8, usize) -> Present,
     pub records: unsafe extern "C" fn(*const u8, usize, *mut u8, usize) -> Filled,
     pub write: unsafe extern "C" fn(*const u8, usize, *mut u8, usize, u8) -> Wrote,
+    pub vendor_records: unsafe extern "C" fn(*const u8, usize, *mut u8, usize) -> Filled,
+    pub vendor_write: unsafe extern "C" fn(*const u8, usize, *mut u8, usize) -> Filled,
 }
 
 /// What they are held to.
@@ -31,6 +33,8 @@ pub struct Yardstick {
     pub present: fn(&[u8]) -> Present,
     pub records: fn(&[u8], &mut [u8]) -> Filled,
     pub write: fn(&[u8], &mut [u8], u8) -> Wrote,
+    pub vendor_records: fn(&[u8], &mut [u8]) -> Filled,
+    pub vendor_write: fn(&[u8], &mut [u8]) -> Filled,
 }
 
 /// The yardstick made of a module of rules.
@@ -50,6 +54,8 @@ macro_rules! yardstick {
             write: |sheet, m, permission| {
                 $($rules)::+::writing::write(sheet, m, permission).into()
             },
+            vendor_records: |bytes, sheet| $($rules)::+::vendor::records(bytes, sheet).into(),
+            vendor_write: |sheet, out| $($rules)::+::vendor::write(sheet, out).into(),
         }
     };
 }
@@ -72,5 +78,7 @@ pub fn own_exports() -> Subject {
         present: independent_present,
         records: independent_records,
         write: independent_write,
+        vendor_records: independent_vendor_records,
+        vendor_write: independent_vendor_write,
     }
 }

@@ -1,0 +1,122 @@
+// Reads vendor information, and sheets of its items, from standard input, and prints what the calls that C links give of each (tests/items/README.md).
+use console::one;
+use console::word;
+use filled::PlainFilled;
+use message::part;
+
+// Fills buf with first, first + 1 and so on, modulo 256, so that a byte that is moved or changed shows.
+fn fill(buf: &mut [u8], first: u8) {
+    let mut x = first;
+    let mut i: usize = 0;
+    while i < buf.len() {
+        buf[i] = x;
+        x = std::num::wrapping_add_u8(x, 1);
+        i = i + 1;
+    }
+}
+
+// Whether a and b have the same bytes.
+fn same(a: &[u8], b: &[u8]) -> bool {
+    if a.len() != b.len() {
+        return false;
+    }
+    let mut i: usize = 0;
+    while i < a.len() {
+        if a[i] != b[i] {
+            return false;
+        }
+        i = i + 1;
+    }
+    true
+}
+
+// What was given: the bytes, or the refusal; and a sum of the bytes of the buffer past them.
+fn shown(g: PlainFilled, out: &[u8]) {
+    if g.refusal != 0 {
+        console::two(b"refused", g.refusal as usize, g.place);
+    } else {
+        one(b"given", g.size as u64);
+        word(b" ");
+        console::hex(part(out, 0, g.size));
+    }
+    one(b" rest sum", console::sum(part(out, g.size, out.len())));
+    word(b"\n");
+}
+
+// Whether what was written reads as the sheet.
+fn back(sheet: &[u8], bytes: &[u8]) {
+    let mut out = [0u8; 4096];
+    let g = dhcpopt_reader::dhcpopt_vendor_records(bytes, &mut out);
+    if g.refusal != 0 {
+        console::two(b"back refused", g.refusal as usize, g.place);
+    } else if same(sheet, part(&out, 0, g.size)) {
+        word(b"back same");
+    } else {
+        word(b"back differs");
+    }
+    word(b"\n");
+}
+
+fn read(bytes: &[u8], out: &mut [u8]) {
+    let g = dhcpopt_reader::dhcpopt_vendor_records(bytes, out);
+    shown(g, out);
+    word(b"-\n");
+}
+
+fn write(sheet: &[u8], out: &mut [u8]) {
+    let g = dhcpopt_writer::dhcpopt_vendor_write(sheet, out);
+    let given = g.refusal == 0;
+    let size = g.size;
+    shown(g, out);
+    if given {
+        back(sheet, part(out, 0, size));
+    }
+    word(b"-\n");
+}
+
+// The lines of one case: 0 reads items, any other call writes them.
+fn case(call: u8, bytes: &[u8], out: &mut [u8]) {
+    if call == 0 {
+        read(bytes, out);
+        return;
+    }
+    write(bytes, out);
+}
+
+// Reads as many bytes as `bytes` has and prints their lines.
+fn body(bytes: &mut [u8], out: &mut [u8], first: u8, call: u8) {
+    let n = io::read_full(0, bytes);
+    fill(out, first);
+    case(call, &bytes[..n], out);
+}
+
+// Reads one case and prints its lines; false at the end of the input.
+fn next() -> bool {
+    let mut head = [0u8; 6];
+    if io::read_full(0, &mut head) < 6 {
+        return false;
+    }
+    let room = num::be16(head[1], head[2]) as usize;
+    let size = num::be16(head[4], head[5]) as usize;
+    if 5000 < room {
+        return false;
+    }
+    if 5000 < size {
+        return false;
+    }
+    let mut out = [0u8; 5000];
+    let mut bytes = [0u8; 5000];
+    body(&mut bytes[..size], &mut out[..room], head[3], head[0]);
+    true
+}
+
+// At most 2,000 cases are read.
+fn main() {
+    let mut left: usize = 2000;
+    while left > 0 {
+        if !next() {
+            break;
+        }
+        left = left - 1;
+    }
+}

@@ -1,0 +1,82 @@
+-- What the reader of vendor information gives, by what the walk told. Assumes nothing.
+use mathlib.Core.Path.{_≡_, refl, sym, ap, _∙_, subst}
+use mathlib.Core.Bool.{Bool, true, false}
+use mathlib.Core.List.{List, [], _∷_, _++_}
+use Prim.Native.Nat.{ℕ, _≤_, _<_}
+use native.Mathlib.Omega.{arith}
+use lib.ListN.{length, drop}
+use borrow.Author.Tests.{lt-ltb, le-ltb}
+use Rattle.options.specs.Message.{Rec}
+use Rattle.options.specs.Reading.{Parse, ended, ranOut, beyond, found, parse}
+use Rattle.options.specs.Answers.{recordBytes, Filled}
+use Rattle.options.specs.Vendor.{Item, Items, listed, past, also, itemsIn, itemRecords, vendorRecords}
+use Rattle.theorems.proofs.View.{clash}
+use Rattle.message.specs.declared.Measured.{Measured}
+use Rattle.message.specs.Items.{measureOf}
+use Rattle.buffer.specs.Written.{Written}
+use Rattle.buffer.proofs.Writing.{written-front}
+use Rattle.filled.specs.Fill.{givenOf, Fills}
+use Rattle.filled.specs.declared.Given.the-variants.{Bytes, Refused}
+use Rattle.vendor.specs.Laid.{foundIn, itemBytes, NonePast}
+
+-- what is found is what is listed
+abbrev Same : Items → List Rec → Parse → Type 0
+Same (past i) rs p = Unit {0}
+Same (listed xs) rs p = (rs ≡ itemRecords xs) × NonePast p
+
+same-also : (i : ℕ) (x : Rec) (w : Items) (rs : List Rec) (p : Parse) → Same w rs p → Same (also (record { offset = i; item = x }) w) (x ∷ rs) (found i x p)
+unfolding itemRecords
+same-also i x (past j) rs p e = tt
+same-also i x (listed xs) rs p e = (ap (λ (l : List Rec). x ∷ l) (e .0), e .1)
+
+found-same : (p : Parse) → Same (itemsIn p) (foundIn p) p
+unfolding itemsIn itemRecords foundIn
+found-same ended = (refl, tt)
+found-same (ranOut i) = (refl, tt)
+found-same (beyond i) = tt
+found-same (found i x p) = same-also i x (itemsIn p) (foundIn p) p (found-same p)
+
+-- no item runs past
+record Lists (f : List ℕ) (t : Measured) : Type 0 where
+  items : List Item
+  reads : itemsIn (parse 0 0 f) ≡ listed items
+  size-is : t .size ≡ length (recordBytes (itemRecords items))
+  bytes-are : itemBytes (parse 0 0 f) ≡ recordBytes (itemRecords items)
+  none-past : NonePast (parse 0 0 f)
+
+module _ (f : List ℕ) (t : Measured) (e : t ≡ measureOf (itemsIn (parse 0 0 f))) where
+  lists : t .past ≡ false → Lists f t
+  unfolding itemBytes
+  lists h = go (itemsIn (parse 0 0 f)) refl (found-same (parse 0 0 f))
+    where
+      go : (w : Items) → itemsIn (parse 0 0 f) ≡ w → Same w (foundIn (parse 0 0 f)) (parse 0 0 f) → Lists f t
+      go (past i) q s = let z : true ≡ false = sym (ap (λ (x : Measured). x .past) (e ∙ ap measureOf q)) ∙ h in clash (cc)
+      go (listed xs) q s = record { items = xs; reads = q; size-is = ap (λ (x : Measured). x .size) (e ∙ ap measureOf q); bytes-are = ap recordBytes (s .0); none-past = s .1 }
+
+  -- what is laid takes that much
+  pub laid-size : t .past ≡ false → length (itemBytes (parse 0 0 f)) ≡ t .size
+  laid-size h = let l = lists h in ap length (l .bytes-are) ∙ sym (l .size-is)
+
+  pub no-past : t .past ≡ false → NonePast (parse 0 0 f)
+  no-past h = lists h .none-past
+
+  pub fills-17 : (old : List ℕ) → t .past ≡ true → Fills (vendorRecords f old) (Refused 17 (t .place)) old
+  unfolding vendorRecords
+  fills-17 old h = go (itemsIn (parse 0 0 f)) refl
+    where
+      go : (w : Items) → itemsIn (parse 0 0 f) ≡ w → Fills (vendorRecords f old) (Refused 17 (t .place)) old
+      go (past i) q = let p : t .place ≡ i = ap (λ (x : Measured). x .place) (e ∙ ap measureOf q) in rw (q, p) (record { answer = refl; buffer = refl })
+      go (listed xs) q = let z : true ≡ false = sym h ∙ ap (λ (x : Measured). x .past) (e ∙ ap measureOf q) in clash (cc)
+
+  pub fills-11 : (old : List ℕ) → t .past ≡ false → length old < t .size → Fills (vendorRecords f old) (Refused 11 (length old)) old
+  unfolding vendorRecords
+  fills-11 old h l =
+      let w = lists h in
+      rw (w .reads, lt-ltb (length old) (length (recordBytes (itemRecords (w .items)))) (omega (arith, l, w .size-is))) (record { answer = refl; buffer = refl })
+
+  pub fills-given : (old : List ℕ) → t .past ≡ false → t .size ≤ length old → (r : ℕ) (after : List ℕ) → Written old 0 (itemBytes (parse 0 0 f)) r after → Fills (vendorRecords f old) (Bytes r) after
+  unfolding vendorRecords
+  fills-given old h l r after p =
+      let w = lists h in
+      let q = written-front (rw (w .bytes-are) at p) in
+      rw (w .reads, le-ltb (length old) (length (recordBytes (itemRecords (w .items)))) (omega (arith, l, w .size-is)), q .0, q .1) (record { answer = refl; buffer = refl })

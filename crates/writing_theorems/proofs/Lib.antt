@@ -14,6 +14,8 @@ pub mod SheetRows
 pub mod Demand
 -- The plans, and what a field takes
 pub mod Plans
+-- What is permitted and what is tried
+pub mod Tries
 -- What the writer leaves, when it refuses, and that no other writer is right
 pub mod Writer
 pub mod Declined

@@ -20,5 +20,7 @@ pub mod Tries
 pub mod Writer
 pub mod Declined
 pub mod WriterOnly
+-- The writer over any list of plans
+pub mod Trying
 -- Cases of long records, computed
 pub mod LongRecords

@@ -1,4 +1,4 @@
--- The plans that are permitted and those that are tried: plan 2 under permission 3 makes no difference. FileForSname, PlanTwoNeedless, TriesRight, proved. Assumes nothing.
+-- The plans that are permitted and those that are tried: plan 2 under permission 3 makes no difference. FileForSname, PlanTwoNeverFirst, PlanTwoNeedless, TriesRight, proved. Assumes nothing.
 use mathlib.Core.Path.{_≡_, refl, sym, ap, _∙_, subst}
 use mathlib.Core.List.{List, [], _∷_}
 use mathlib.Core.Bool.{Bool, true, false, cond}
@@ -11,7 +11,7 @@ use borrow.Author.Tests.{ltb-true, lt-ltb, leb-true, eqb-true, eqb-false}
 use Rattle.options.specs.Message.{Rec}
 use Rattle.options.specs.SheetWalk.{Sheet, sound, faulty}
 use Rattle.options.specs.Writing.{size, fits, isNil, pastOptions, pastFile, pastSname, planFits, splitAll, sheet, threeBeforeOne, placeOf3, Wrote, wrote, declined, written, permittedPlans, plans, tryPlans, afterSheet, writer}
-use Rattle.options.specs.WriterClaims.{Has, Permitted, plan-0, plan-1, plan-2, any-plan, FileForSname, PlanTwoNeedless, TriesRight}
+use Rattle.options.specs.WriterClaims.{Has, Permitted, plan-0, plan-1, plan-2, any-plan, Rising, Writes, FileForSname, PlanTwoNeverFirst, PlanTwoNeedless, TriesRight}
 use Rattle.theorems.proofs.View.{clash}
 use Rattle.writing_theorems.proofs.Demand.{both}
 use Rattle.writing_theorems.proofs.Plans.{holding, fitting, fits-of}
@@ -48,6 +48,10 @@ pub file-for-sname : FileForSname
 file-for-sname n ps h = holding 1 n ps (fits-of 1 n ps (one-for-two n ps (fitting 2 n ps h)))
 
 -- ---- "and file is tried first"
+
+pub plan-two-never-first : PlanTwoNeverFirst
+plan-two-never-first s m w x =
+    x .none-lower 1 (any-plan (omega arith)) (omega arith) (file-for-sname (length m - 240) (x .of-sheet .pieces) (x .written-as .holding))
 
 pub same-tries : (k : ℕ) (m : List ℕ) (ps : List Rec) → tryPlans (permittedPlans k) m ps ≡ tryPlans (plans k) m ps
 unfolding tryPlans
@@ -159,9 +163,28 @@ is-tried k q h a n = go (eqb k 0) (eqb k 1) (eqb k 2) refl refl refl (permitted-
     go false false false x y z (inr (inr (inl e))) = absurd (n (three k (eqb-false k 0 x) (eqb-false k 1 y) (eqb-false k 2 z) h) e)
     go false false false x y z (inr (inr (inr w))) = inr (inr w)
 
+pub rising : (k : ℕ) → Rising 0 (permittedPlans k)
+rising k = go (eqb k 0) (eqb k 1) (eqb k 2)
+  where
+    go : (a b c : Bool) → Rising 0 (cond a (0 ∷ []) (cond b (0 ∷ 1 ∷ []) (cond c (0 ∷ 2 ∷ []) (0 ∷ 1 ∷ 2 ∷ 3 ∷ []))))
+    go true b c = omega arith
+    go false true c = omega arith
+    go false false true = omega arith
+    go false false false = omega arith
+
+tried-rising : (k : ℕ) → Rising 0 (plans k)
+tried-rising k = go (eqb k 0) (eqb k 1) (eqb k 2)
+  where
+    go : (a b c : Bool) → Rising 0 (cond a (0 ∷ []) (cond b (0 ∷ 1 ∷ []) (cond c (0 ∷ 2 ∷ []) (0 ∷ 1 ∷ 3 ∷ []))))
+    go true b c = omega arith
+    go false true c = omega arith
+    go false false true = omega arith
+    go false false false = omega arith
+
 pub tries-right : TriesRight
 tries-right k q h =
     record {
       permitted = (is-permitted k q h, permitted-is k q);
       tried = ((λ a. (is-permitted k q h (tried-is k q a), λ e. not-two q (subst (λ (i : ℕ). Has q (plans i)) e a))), (λ x. is-tried k q h (x .0) (x .1)));
+      rising = (rising k, tried-rising k);
     }

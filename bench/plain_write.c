@@ -85,7 +85,7 @@ typedef struct {
     cut options, file;
 } plan;
 
-/* Finds the first permitted plan that fits. */
+/* Finds the first plan that is tried and fits. */
 static bool find_plan(plan *p, const uint8_t *s, size_t n, size_t size, size_t room, uint8_t permission)
 {
     cut first = {0, 0}, last = {n, 0};
@@ -101,9 +101,10 @@ static bool find_plan(plan *p, const uint8_t *s, size_t n, size_t size, size_t r
         *p = (plan){1, options, last};
         return true;
     }
-    if ((permission & 2) && fitting(s, options, n, SNAME_ROOM).i == n) {
+    /* Not under permission 3: what fits sname fits file, which was tried. */
+    if (permission == 2) {
         *p = (plan){2, options, options};
-        return true;
+        return fitting(s, options, n, SNAME_ROOM).i == n;
     }
     *p = (plan){3, options, file};
     return permission == 3 && fitting(s, file, n, SNAME_ROOM).i == n;

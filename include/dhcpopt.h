@@ -251,8 +251,9 @@ dhcpopt_filled dhcpopt_vendor_records(const uint8_t *bytes, size_t size, uint8_t
 /*
  * Writes a sheet of such records into a message buffer. The whole buffer, all its size bytes, is then the message.
  * A record of more than 255 data bytes is cut into pieces of 255 and a last one of 1 to 255, in order; each is whole in one field.
- * Permitted plans are tried rising, and the first that fits is used. Written are the cookie, the options field and whichever of file
- * and sname the plan uses, each to its last byte; the header and an unused file or sname stay as they were.
+ * Permitted plans are tried rising, and the first that fits is used. With permission 3 it is never plan 2: where that fits, plan 1 does.
+ * Written are the cookie, the options field and whichever of file and sname the plan uses, each to its last byte; the header and an
+ * unused file or sname stay as they were.
  * A refusal leaves all of the buffer as it was. Refused, in this order: 1 or 2 at size; 15 at 0; 16 at sheet_size; the first faulty
  * record at its tag byte: 12, 10, 13, 7, 8, 9; then 14 at the byte of tag 3; then 11 at size.
  * permission is one byte: C cuts a larger number to its low byte before the call, 259 to 3.

@@ -747,8 +747,50 @@ def kind_cases():
     return cases
 
 
+def left_over(first, second):
+    """The options of 200 and 201 that take so many bytes: as records of a sheet, and as they are written."""
+    return record(200, ramp(first - 2)) + record(201, ramp(second - 2)), option(200, ramp(first - 2)), option(201, ramp(second - 2))
+
+
+def beside_lease(plan, *fields):
+    """What is expected where options has 52 and the lease, and no room more."""
+    return f"plan {plan} | options 34 01 0{plan} 33 04 00 00 0E 10 FF zeros 0 | " + " | ".join(fields) + " | accepted 4"
+
+
+def without_plan_2():
+    """Request 06, at the edges of sname (63 bytes of options and END) and file (127): what options leaves over, by the permission.
+
+    With permission 3 it is plan 1 wherever it would be plan 2; sname then stays as it was. The buffer of 250 bytes has room for 52 and the
+    lease. 200 and 201 are left over."""
+    cases = []
+    for size in (61, 62, 63, 64, 125, 126, 127, 128):
+        sheet, one, two = left_over(22, size - 22)
+        file = beside_lease(1, f"file {one}{two}FF zeros {127 - size}") if size < 128 else "refused 11 250"
+        sname = beside_lease(2, f"sname {one}{two}FF zeros {63 - size}") if size < 64 else "refused 11 250"
+        cases += every_permission(f"06: {size} bytes left over", 250, LEASE + sheet, "refused 11 250", file, sname, file)
+    # Too much for file by one byte or more: what file leaves over has to fit sname.
+    for first, second in ((66, 62), (65, 63), (127, 62), (127, 63), (126, 3)):
+        sheet, one, two = left_over(first, second)
+        both = beside_lease(3, f"file {one}FF zeros {127 - first}", f"sname {two}FF zeros {63 - second}")
+        cases += every_permission(f"06: {first} bytes left over for file, {second} for sname", 250, LEASE + sheet, "refused 11 250",
+                                  "refused 11 250", "refused 11 250", both)
+    for first, second in ((64, 64), (127, 64), (128, 62), (62, 128)):
+        cases += every_permission(f"06: {first} and {second} bytes left over", 250, LEASE + left_over(first, second)[0], "refused 11 250")
+    # A last piece is what is left over: of 62 bytes, of 126.
+    start = " C8 FF" + ramp(255) + "FF zeros 0 | "
+    for size in (62, 126):
+        sheet, last = record(200, ramp(253 + size)), pieces(200, ramp(253 + size), 255, size - 2)[len(option(200, ramp(255))):]
+        file = "plan 1 | options 34 01 01" + start + f"file {last}FF zeros {127 - size} | accepted 3"
+        sname = "plan 2 | options 34 01 02" + start + f"sname {last}FF zeros {63 - size} | accepted 3" if size < 64 else "refused 11 501"
+        cases += every_permission(f"06: a last piece of {size} bytes left over", 501, sheet, "refused 11 501", file, sname, file)
+    return cases
+
+
+PLAN_2 = without_plan_2()
+
+
 def main():
-    hand = OWN_CASES + LENGTHS + PERMISSIONS + PLANS + CONTENT + FAULTS + ROUTER_FIRST + SHEETS + LONG_RECORDS + MANY
+    hand = OWN_CASES + LENGTHS + PERMISSIONS + PLANS + CONTENT + FAULTS + ROUTER_FIRST + SHEETS + LONG_RECORDS + MANY + PLAN_2
     cases = hand + kind_cases()
     given, printed = b"", []
     for reason, permission, length, text, expected, *first in cases:

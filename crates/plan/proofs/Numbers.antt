@@ -40,8 +40,8 @@ tried (p ∷ ps) m rs = go (planFits p (length m - 240) rs) (tried ps m rs)
     go true ih = λ n i e. clash (cc)
     go false ih = ih
 
-judged : (s m : List ℕ) (permission : ℕ) → Numbered (afterSheet m permission (sheet kinds s))
-judged s m permission n p e = go (eqb (judgeOf s .number) 0) refl n p (sym (verdict-settles s m permission) ∙ e)
+judged : (s m : List ℕ) (permission : ℕ) → Numbered (afterSheet m (plans permission) (sheet kinds s))
+judged s m permission n p e = go (eqb (judgeOf s .number) 0) refl n p (sym (verdict-settles s m (plans permission)) ∙ e)
   where
     go : (b : Bool) → eqb (judgeOf s .number) 0 ≡ b → Numbered (cond b (tryPlans (plans permission) m (splitAll (recordsLeft s 0))) (declined (judgeOf s .number) (judgeOf s .place)))
     go true q = tried (plans permission) m (splitAll (recordsLeft s 0))

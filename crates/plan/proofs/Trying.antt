@@ -38,7 +38,7 @@ module _ (n : ℕ) (rs : List Rec) (permission : ℕ) (some : permission ≡ 0 �
   unfolding firstFit
   of-1 e = rw (ne-eqb permission 0 some, eq-eqb permission 1 e)
 
-  of-3 : (permission ≡ 1 → ⊥) → (permission ≡ 2 → ⊥) → chosen ≡ cond (planFits 1 n rs) 1 (cond (planFits 2 n rs) 2 (cond (planFits 3 n rs) 3 0))
+  of-3 : (permission ≡ 1 → ⊥) → (permission ≡ 2 → ⊥) → chosen ≡ cond (planFits 1 n rs) 1 (cond (planFits 3 n rs) 3 0)
   unfolding firstFit
   of-3 n1 n2 = rw (ne-eqb permission 0 some, ne-eqb permission 1 n1, ne-eqb permission 2 n2)
 
@@ -46,11 +46,11 @@ module _ (n : ℕ) (rs : List Rec) (permission : ℕ) (some : permission ≡ 0 �
   unfolding firstFit
   none-small h = sym (go (eqb permission 0) (eqb permission 1) (eqb permission 2))
     where
-      go : (a b c : Bool) → firstFit (cond a [] (cond b (1 ∷ []) (cond c (2 ∷ []) (1 ∷ 2 ∷ 3 ∷ [])))) n rs ≡ 0
+      go : (a b c : Bool) → firstFit (cond a [] (cond b (1 ∷ []) (cond c (2 ∷ []) (1 ∷ 3 ∷ [])))) n rs ≡ 0
       go true b c = refl
       go false true c = rw (← no-room 1 n rs h)
       go false false true = rw (← no-room 2 n rs h)
-      go false false false = rw (← no-room 1 n rs h, ← no-room 2 n rs h, ← no-room 3 n rs h)
+      go false false false = rw (← no-room 1 n rs h, ← no-room 3 n rs h)
 
   -- a is what the options after the options field take
   module _ (l : 4 ≤ n) (a : ℕ) (ea : a ≡ sizes (afterOptions n rs l)) where
@@ -76,12 +76,11 @@ module _ (n : ℕ) (rs : List Rec) (permission : ℕ) (some : permission ≡ 0 �
         pub file-only : permission ≡ 1 → 0 ≡ chosen
         file-only e = sym (of-1 e ∙ (rw (file-takes false (le-ltb a 128 h))))
 
-        -- so sname does not, and plan 3 is left
+        -- plan 3 is left
         pub with-both : (permission ≡ 1 → ⊥) → (f : ℕ) → f ≡ sizes (afterFile n rs l) → (r : ℕ) → r ≡ cond (ltb f 64) 3 0 → r ≡ chosen
         with-both n1 f ef r er =
-            let two : planFits 2 n rs ≡ false = sname-takes ∙ le-ltb a 64 (omega arith) in
             let three : planFits 3 n rs ≡ ltb f 64 = rw ef (fits-3 n rs l) in
-            er ∙ sym (of-3 n1 n2 ∙ (rw (file-takes false (le-ltb a 128 h), two, three)))
+            er ∙ sym (of-3 n1 n2 ∙ (rw (file-takes false (le-ltb a 128 h), three)))
 
 -- ---- The plans, one after the other
 
@@ -93,16 +92,16 @@ Overload (p ∷ ps) = (1 ≤ p) × Overload ps
 overload : (permission : ℕ) → Overload (overloading permission)
 overload permission = go (eqb permission 0) (eqb permission 1) (eqb permission 2)
   where
-    go : (a b c : Bool) → Overload (cond a [] (cond b (1 ∷ []) (cond c (2 ∷ []) (1 ∷ 2 ∷ 3 ∷ []))))
+    go : (a b c : Bool) → Overload (cond a [] (cond b (1 ∷ []) (cond c (2 ∷ []) (1 ∷ 3 ∷ []))))
     go true b c = tt
     go false true c = (omega arith, tt)
     go false false true = (omega arith, tt)
-    go false false false = (omega arith, (omega arith, (omega arith, tt)))
+    go false false false = (omega arith, (omega arith, tt))
 
 plans-are : (permission : ℕ) → plans permission ≡ 0 ∷ overloading permission
 plans-are permission = go (eqb permission 0) (eqb permission 1) (eqb permission 2)
   where
-    go : (a b c : Bool) → cond {A = List ℕ} a (0 ∷ []) (cond b (0 ∷ 1 ∷ []) (cond c (0 ∷ 2 ∷ []) (0 ∷ 1 ∷ 2 ∷ 3 ∷ []))) ≡ 0 ∷ cond a [] (cond b (1 ∷ []) (cond c (2 ∷ []) (1 ∷ 2 ∷ 3 ∷ [])))
+    go : (a b c : Bool) → cond {A = List ℕ} a (0 ∷ []) (cond b (0 ∷ 1 ∷ []) (cond c (0 ∷ 2 ∷ []) (0 ∷ 1 ∷ 3 ∷ []))) ≡ 0 ∷ cond a [] (cond b (1 ∷ []) (cond c (2 ∷ []) (1 ∷ 3 ∷ [])))
     go true b c = refl
     go false true c = refl
     go false false true = refl
@@ -166,15 +165,15 @@ module _ (s : List ℕ) (n permission : ℕ) where
         sheet-long l m e = rw (e, le-ltb n 240 h, le-ltb 1472 n h2, le-ltb 3 permission h3, lt-ltb 4096 (length s) l)
 
         module _ (h4 : length s ≤ 4096) where
-          to-sheet : (m : List ℕ) → length m ≡ n → writer kinds s m permission ≡ afterSheet m permission (sheet kinds s)
+          to-sheet : (m : List ℕ) → length m ≡ n → writer kinds s m permission ≡ afterSheet m (plans permission) (sheet kinds s)
           unfolding writer
           to-sheet m e = rw (e, le-ltb n 240 h, le-ltb 1472 n h2, le-ltb 3 permission h3, le-ltb 4096 (length s) h4)
 
           pub faulty-sheet : (k p : ℕ) → k ≡ judgeOf s .number → p ≡ judgeOf s .place → (k ≡ 0 → ⊥) → Answers s n permission (Refused k p)
-          faulty-sheet k p ek ep z m e = ap₂ Refused ek ep ∙ ap (answerOf (singleOf s)) (sym (to-sheet m e ∙ refused s m permission (λ q. z (ek ∙ q))))
+          faulty-sheet k p ek ep z m e = ap₂ Refused ek ep ∙ ap (answerOf (singleOf s)) (sym (to-sheet m e ∙ refused s m (plans permission) (λ q. z (ek ∙ q))))
 
           pub sound-sheet : Accepted s → (single : ℕ) → single ≡ judgeOf s .single → (r : Choice) → Tries (piecesLeft s 0 0) n permission single r → Answers s n permission r
           sound-sheet a single g r t m e =
               t m e
               ∙ ap₂ (λ (k : ℕ) (ps : List Rec). answerOf k (tryPlans (plans permission) m ps)) (g ∙ a .single) (pieces-at-record s 0)
-              ∙ ap (answerOf (singleOf s)) (sym (to-sheet m e ∙ tries s m permission a))
+              ∙ ap (answerOf (singleOf s)) (sym (to-sheet m e ∙ tries s m (plans permission) a))

@@ -35,12 +35,12 @@ pub record RestOf (n : ℕ) (s : List ℕ) (at done : ℕ) (r : Rest) : Type 0 w
   pub from : From s (leftOver n (piecesLeft s at done)) (r .place) (r .done)
   pub total : r .total ≡ sizes (leftOver n (piecesLeft s at done))
 
--- the permitted plans after plan 0
+-- the plans that are tried after plan 0
 abbrev pub overloading : ℕ → List ℕ
 overloading permission =
     cond (eqb permission 0) []
     (cond (eqb permission 1) (1 ∷ [])
-    (cond (eqb permission 2) (2 ∷ []) (1 ∷ 2 ∷ 3 ∷ [])))
+    (cond (eqb permission 2) (2 ∷ []) (1 ∷ 3 ∷ [])))
 
 -- the first of these plans that fits, the options field having n bytes; 0 where none does
 unfoldable pub firstFit : List ℕ → ℕ → List Rec → ℕ

@@ -132,8 +132,9 @@ fn rest_after(
     rest_pieces(left, s, place, inside, total - (room - left))
 }
 
-// The first permitted plan that overloads and leaves no piece over, in a buffer of so many bytes; else 0. The last field of a plan takes all
-// that is left where its options and END fit, so it needs no walk.
+// The first plan that is tried, overloads and leaves no piece over, in a buffer of so many bytes; else 0. The last field of a plan takes all
+// that is left where its options and END fit, so it needs no walk. With permission 3 plan 2 is not tried: what is too much for file is too much
+// for sname.
 fn overload_plan(len: usize, s: &[u8], single: usize, total: usize, permission: u8) -> u8
     requires { ⌜ (240 ≤ len) × Between (now s) 0 0 × Single (now s) single 0 0 × (total ≡ sizes (piecesLeft (now s) 0 0)) ⌝ }
     ensures { λ r. ⌜ r ≡ firstFit (overloading permission) (len - 240) (piecesLeft (now (s .entry)) 0 0) ⌝ }
@@ -154,10 +155,6 @@ fn overload_plan(len: usize, s: &[u8], single: usize, total: usize, permission: 
     }
     if permission == 1 {
         return 0;
-    }
-    // Plan 2 has its turn, though what file cannot take is too much for sname.
-    if options.total < 64 {
-        return 2;
     }
     let file = rest_after(128, s, single, options.place, options.done, options.total);
     plan_if(file.total, 64, 3)

@@ -39,7 +39,7 @@ module _ (s m : List ℕ) (permission p single : ℕ) (b : List ℕ) (g : single
   unfolding planFits
   has-room rs f = leb-true (leastRoom p) (length m - 240) (both _ _ f .0)
 
-  by-sheet : (w : Sheet) → sheet kinds s ≡ w → 240 ≤ length m → length s ≤ 4096 → afterSheet m permission w ≡ wrote p b → Used s m permission p single
+  by-sheet : (w : Sheet) → sheet kinds s ≡ w → 240 ≤ length m → length s ≤ 4096 → afterSheet m (plans permission) w ≡ wrote p b → Used s m permission p single
   by-sheet (faulty n i) q h few a = clash (cc)
   by-sheet (sound rs) q h few a =
       let t = passed (threeBeforeOne rs) 14 (placeOf3 rs) _ p b a .1 in

@@ -16,14 +16,15 @@ use Rattle.options.specs.KindClaims.{AllBytes}
 use Rattle.options.specs.Sheet.{Listed, first}
 use Rattle.options.specs.SheetRefusals.{SheetRow, row-7}
 use Rattle.options.specs.SheetWalk.{AllShort, Sheet, sound, faulty}
-use Rattle.options.specs.Writing.{splitAll, sheet, Wrote, wrote, declined, threeBeforeOne, placeOf3, planFits, plans, tryPlans, afterSheet, written, writer}
-use Rattle.options.specs.WriterClaims.{SheetPieces, Permitted, Holding, step, WriteRow, write-1, write-2, write-15, write-16, write-record, write-14, write-11, FirstWriteRow, WriterSays, RefusesByTheTable, CorrectWrite, DeclinedIff}
+use Rattle.options.specs.Writing.{splitAll, sheet, Wrote, wrote, declined, threeBeforeOne, placeOf3, planFits, permittedPlans, plans, tryPlans, afterSheet, written, writer}
+use Rattle.options.specs.WriterClaims.{Has, SheetPieces, Permitted, Holding, step, WriteRow, write-1, write-2, write-15, write-16, write-record, write-14, write-11, FirstWriteRow, WriterSays, RefusesByTheTable, CorrectWrite, DeclinedIff}
 use Rattle.theorems.proofs.View.{clash}
 use Rattle.theorems.proofs.Reading.{order}
 use Rattle.writing_theorems.proofs.SheetLaws.{sound-sheet}
 use Rattle.writing_theorems.proofs.SheetRows.{FirstSheetRow, Judges, judges, three-first, three-later, same-number}
-use Rattle.writing_theorems.proofs.Writer.{piecesOf, same-pieces, writer-writes, Among, is-permitted, permitted-is}
+use Rattle.writing_theorems.proofs.Writer.{piecesOf, same-pieces, writer-writes}
 use Rattle.writing_theorems.proofs.Plans.{holding, fitting, fits-of}
+use Rattle.writing_theorems.proofs.Tries.{same-tries, is-permitted, permitted-is}
 
 module _ (t : Table) (s m : List ℕ) (permission : ℕ) where
   -- no row comes at a step before k
@@ -95,12 +96,12 @@ module _ (t : Table) (s m : List ℕ) (permission : ℕ) where
 -- ---- the plans
 
 abbrev Tried : List ℕ → List Rec → List ℕ → Wrote → Type 0
-Tried m rs ps (declined n p) = (n ≡ 11) × (p ≡ length m) × ((x : ℕ) → Among x ps → planFits x (length m - 240) rs ≡ false)
-Tried m rs ps (wrote q w) = Among q ps × (planFits q (length m - 240) rs ≡ true)
+Tried m rs ps (declined n p) = (n ≡ 11) × (p ≡ length m) × ((x : ℕ) → Has x ps → planFits x (length m - 240) rs ≡ false)
+Tried m rs ps (wrote q w) = Has q ps × (planFits q (length m - 240) rs ≡ true)
 
 tried-more : (m : List ℕ) (rs : List Rec) (p : ℕ) (ps : List ℕ) (w : Wrote) → planFits p (length m - 240) rs ≡ false → Tried m rs ps w → Tried m rs (p ∷ ps) w
 tried-more m rs p ps (declined n q) e t =
-    (t .0, t .1, λ x a. ⊎-elim (λ (z : x ≡ p). subst (λ (y : ℕ). planFits y (length m - 240) rs ≡ false) (sym z) e) (λ (z : Among x ps). t .2 x z) a)
+    (t .0, t .1, λ x a. ⊎-elim (λ (z : x ≡ p). subst (λ (y : ℕ). planFits y (length m - 240) rs ≡ false) (sym z) e) (λ (z : Has x ps). t .2 x z) a)
 tried-more m rs p ps (wrote q w) e t = (inr (t .0), t .1)
 
 tried : (m : List ℕ) (rs : List Rec) (ps : List ℕ) → Tried m rs ps (tryPlans ps m rs)
@@ -172,7 +173,7 @@ module _ (t : Table) (s m : List ℕ) (permission : ℕ) (h1 : 240 ≤ length m)
       step-8 (write-14 a b c) = omega arith
       step-8 (write-11 x h) = omega arith
 
-      plans-say : (x : Wrote) → Tried m (splitAll rs) (plans permission) x → WriterSays t s m permission x
+      plans-say : (x : Wrote) → Tried m (splitAll rs) (permittedPlans permission) x → WriterSays t s m permission x
       plans-say (declined n p) y =
           subst (λ (k : ℕ). FirstWriteRow t s m permission k p) (sym (y .0))
           (subst (λ (k : ℕ). FirstWriteRow t s m permission 11 k) (sym (y .1))
@@ -190,9 +191,10 @@ module _ (t : Table) (s m : List ℕ) (permission : ℕ) (h1 : 240 ≤ length m)
             let z : 0 + placeOf3 rs ≡ placeOf3 rs = omega arith in
             subst (λ (k : ℕ). FirstWriteRow t s m permission 14 k) z (first-14 t s m permission clean (0 + placeOf3 rs) (r .2) (r .0) (r .1) late-6 (r .3) (r .4) (r .5))
         go false e =
-            plans-say (λ i j d f a l b. three-later s (once t s m permission clean) i j d f rs short is e a l b) (tryPlans (plans permission) m (splitAll rs)) (tried m (splitAll rs) (plans permission))
+            plans-say (λ i j d f a l b. three-later s (once t s m permission clean) i j d f rs short is e a l b) (tryPlans (plans permission) m (splitAll rs))
+            (subst (Tried m (splitAll rs) (permittedPlans permission)) (same-tries permission m (splitAll rs)) (tried m (splitAll rs) (permittedPlans permission)))
 
-  sheet-says : (x : Sheet) → AllBytes s → sheet t s ≡ x → Judges t s x → WriterSays t s m permission (afterSheet m permission x)
+  sheet-says : (x : Sheet) → AllBytes s → sheet t s ≡ x → Judges t s x → WriterSays t s m permission (afterSheet m (plans permission) x)
   sheet-says (faulty n p) all e j = first-record t s m permission n p late-5 j
   sheet-says (sound rs) all e j = let f = sound-sheet t s rs e in sound-says rs (f .short) (f .back all) j
 
@@ -201,7 +203,7 @@ unfolding writer
 refuses-by-the-table t s m permission all = go (ltb (length m) 240) (ltb 1472 (length m)) (ltb 3 permission) (ltb 4096 (length s)) refl refl refl refl
   where
     go : (a b c d : Bool) → ltb (length m) 240 ≡ a → ltb 1472 (length m) ≡ b → ltb 3 permission ≡ c → ltb 4096 (length s) ≡ d
-        → WriterSays t s m permission (cond a (declined 1 (length m)) (cond b (declined 2 (length m)) (cond c (declined 15 0) (cond d (declined 16 (length s)) (afterSheet m permission (sheet t s))))))
+        → WriterSays t s m permission (cond a (declined 1 (length m)) (cond b (declined 2 (length m)) (cond c (declined 15 0) (cond d (declined 16 (length s)) (afterSheet m (plans permission) (sheet t s))))))
     go true b c d ea eb ec ed = first-step t s m permission 1 1 (length m) (record {
       l-1 = λ l. absurd (omega arith);
       l-2 = λ l. absurd (omega arith);

@@ -73,7 +73,7 @@ used (p ∷ ps) m rs q w s e = go (planFits p (length m - 240) rs) refl (used ps
 small-plans : (permission : ℕ) → Small (plans permission)
 small-plans permission = go (eqb permission 0) (eqb permission 1) (eqb permission 2)
   where
-    go : (a b c : Bool) → Small (cond a (0 ∷ []) (cond b (0 ∷ 1 ∷ []) (cond c (0 ∷ 2 ∷ []) (0 ∷ 1 ∷ 2 ∷ 3 ∷ []))))
+    go : (a b c : Bool) → Small (cond a (0 ∷ []) (cond b (0 ∷ 1 ∷ []) (cond c (0 ∷ 2 ∷ []) (0 ∷ 1 ∷ 3 ∷ []))))
     go true b c = omega arith
     go false true c = omega arith
     go false false true = omega arith
@@ -92,7 +92,7 @@ record Accepted (t : Table) (s w : List ℕ) : Type 0 where
   reads : readMessage w ≡ accepted opts
   in-order : items opts ≡ with52 plan (splitAll records)
 
-after : (t : Table) (s m : List ℕ) (permission q : ℕ) (w : List ℕ) (x : Sheet) → sheet t s ≡ x → 240 ≤ length m → length m ≤ 1472 → afterSheet m permission x ≡ wrote q w → Accepted t s w
+after : (t : Table) (s m : List ℕ) (permission q : ℕ) (w : List ℕ) (x : Sheet) → sheet t s ≡ x → 240 ≤ length m → length m ≤ 1472 → afterSheet m (plans permission) x ≡ wrote q w → Accepted t s w
 after t s m permission q w (faulty n p) x h l e = clash (cc)
 after t s m permission q w (sound rs) x h l e =
     let r : (threeBeforeOne rs ≡ false) × (tryPlans (plans permission) m (splitAll rs) ≡ wrote q w) = passed (threeBeforeOne rs) 14 (placeOf3 rs) _ q w e in

@@ -14,9 +14,13 @@ pub mod SheetRows
 pub mod Demand
 -- The plans, and what a field takes
 pub mod Plans
+-- What is permitted and what is tried
+pub mod Tries
 -- What the writer leaves, when it refuses, and that no other writer is right
 pub mod Writer
 pub mod Declined
 pub mod WriterOnly
+-- The writer over any list of plans
+pub mod Trying
 -- Cases of long records, computed
 pub mod LongRecords

@@ -577,6 +577,8 @@ const VARIANTS: &[Variant] = &[
     variant!("plans tried falling", "writing.rs", "_ => &[1, 2, 3]", "_ => &[3, 2, 1]"),
     variant!("plan 2 before 1", "writing.rs", "_ => &[1, 2, 3]", "_ => &[2, 1, 3]"),
     variant!("plan 3 is not tried", "writing.rs", "_ => &[1, 2, 3]", "_ => &[1, 2]"),
+    variant!("permission 3 without plan 1", "writing.rs", "_ => &[1, 2, 3]", "_ => &[2, 3]"),
+    variant!("permission 2 without plan 2", "writing.rs", "2 => &[2]", "2 => &[]"),
     variant!("plan 0 is not tried", "writing.rs", "OPTIONS + size < length", "OPTIONS + size < length && permission == 0"),
     variant!("permission 0 permits 1", "writing.rs", "0 => &[]", "0 => &[1]"),
     variant!("permission 2 permits 1", "writing.rs", "2 => &[2]", "2 => &[1]"),

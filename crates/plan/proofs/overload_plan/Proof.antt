@@ -52,22 +52,18 @@ returns-5 c =
     let start = options .before .before .before .before .args in
     file-only _ (piecesLeft (now (start .s)) 0 0) (start .permission) (options .before .before .if1 .left) (options .before .if2 .left) _ (options .rest-after .ensures .0 .total) (third .if3 .left) (c .before .if4 .left) (c .if5 .taken)
 
--- what file cannot take, sname cannot
-returns-6 : tie.Need-returns-6
-returns-6 c = absurd (omega (arith, c .before .before .before .if4 .left, c .if6 .taken))
-
 rest-after-requires-2 : tie.Need-rest-after-requires-2
 rest-after-requires-2 c κs =
-    let fourth = c .before .before .before in
-    let o = fourth .before .before .before .rest-after .ensures in
+    let third = c .before .before .before in
+    let o = third .before .rest-after .ensures in
     (o .0 .from .between, o .1, o .0 .total ∙ ap sizes (sym (o .0 .from .pieces)))
 
 plan-if-requires-2 : tie.Need-plan-if-requires-2
 plan-if-requires-2 c κs = search needs
 
-returns-7 : tie.Need-returns-7
-returns-7 c =
-    let fifth = c .before .before .before .before in
+returns-6 : tie.Need-returns-6
+returns-6 c =
+    let fifth = c .before .before in
     let third = fifth .before .before .before in
     let options = third .before in
     let start = options .before .before .before .before .args in
@@ -88,7 +84,6 @@ overload-plan-spec =
     returns-3
     returns-4
     returns-5
-    returns-6
     rest-after-requires-2
     plan-if-requires-2
-    returns-7)
+    returns-6)

@@ -11,8 +11,8 @@ use Rattle.options.specs.KindClaims.{AllBytes}
 use Rattle.options.specs.Answers.{recordBytes, given, Filled, unfilled}
 use Rattle.options.specs.Sheet.{RecordBegins, Listed}
 use Rattle.options.specs.SheetRefusals.{RecordBeyond}
-use Rattle.options.specs.Writing.{optionBytes, longestSheet}
-use Rattle.options.specs.Vendor.{Item, itemRecords, vendorRecords, longestVendor, vendorWrite}
+use Rattle.options.specs.Writing.{optionBytes}
+use Rattle.options.specs.Vendor.{Item, vendorRecords, vendorWrite}
 
 -- ---- Every item once, in order
 
@@ -42,11 +42,18 @@ filled xs old = record { answer = given (length xs); buffer = xs ++ drop (length
 
 -- ---- The reader
 
--- [V4, R17, O10] "the reader 17, then 11"; else the records of the items
+-- [V4, W1, M15] "lists items as records": document 01's, "end to end: one-byte tag (the code), two-byte length, data", "the high byte first".
+-- Every item has its record, in order; a low byte below 256 leaves one high byte
+pub data RecordsAre : List Item → List ℕ → Type 0 where
+  no-item : RecordsAre [] []
+  one-item : {x : Item} {xs : List Item} {rest : List ℕ} (high low : ℕ) → low < 256 → 256 * high + low ≡ length (x .item .body)
+      → RecordsAre xs rest → RecordsAre (x ∷ xs) (x .item .tag ∷ high ∷ low ∷ (x .item .body ++ rest))
+
+-- [V4, R17, O10] "the reader 17, then 11"; else the records b of the items xs
 pub data ReadsItems (f old : List ℕ) : Filled → Type 0 where
   read-17 : {i : ℕ} → RunsPast f i → ReadsItems f old (unfilled 17 i old)
-  read-11 : (xs : List Item) → ItemsOf f xs → length old < length (recordBytes (itemRecords xs)) → ReadsItems f old (unfilled 11 (length old) old)
-  reads : (xs : List Item) → ItemsOf f xs → length (recordBytes (itemRecords xs)) ≤ length old → ReadsItems f old (filled (recordBytes (itemRecords xs)) old)
+  read-11 : (xs : List Item) (b : List ℕ) → ItemsOf f xs → RecordsAre xs b → length old < length b → ReadsItems f old (unfilled 11 (length old) old)
+  reads : (xs : List Item) (b : List ℕ) → ItemsOf f xs → RecordsAre xs b → length b ≤ length old → ReadsItems f old (filled b old)
 
 -- no other answer is right
 abbrev pub VendorReaderIsCorrect : Type 0
@@ -54,7 +61,7 @@ VendorReaderIsCorrect = (f old : List ℕ) (w : Filled) → vendorRecords f old 
 
 -- "A room of 2 * size is always enough": so include/dhcpopt.h promises
 abbrev pub VendorRoomIsEnough : Type 0
-VendorRoomIsEnough = (f old : List ℕ) (xs : List Item) → ItemsOf f xs → 2 * length f ≤ length old → vendorRecords f old ≡ filled (recordBytes (itemRecords xs)) old
+VendorRoomIsEnough = (f old : List ℕ) (xs : List Item) (b : List ℕ) → ItemsOf f xs → RecordsAre xs b → 2 * length f ≤ length old → vendorRecords f old ≡ filled b old
 
 -- ---- The writer
 
@@ -79,12 +86,12 @@ pub record RightSheet (s : List ℕ) (rs : List Rec) : Type 0 where
 
 -- [V5, R16, R11] "the writer gives 16, record by record .., then 11 with the output's length where the items exceed it or 255"; else the items, "without END"
 pub data WritesItems (s out : List ℕ) : Filled → Type 0 where
-  write-16 : longestSheet < length s → WritesItems s out (unfilled 16 (length s) out)
-  write-record : {n i : ℕ} → length s ≤ longestSheet → FirstVendorRow s n i → WritesItems s out (unfilled n i out)
-  write-11 : (rs : List Rec) → length s ≤ longestSheet → RightSheet s rs
-      → (length out < length (optionBytes rs)) ⊎ (longestVendor < length (optionBytes rs)) → WritesItems s out (unfilled 11 (length out) out)
-  writes : (rs : List Rec) → length s ≤ longestSheet → RightSheet s rs
-      → length (optionBytes rs) ≤ length out → length (optionBytes rs) ≤ longestVendor → WritesItems s out (filled (optionBytes rs) out)
+  write-16 : 4096 < length s → WritesItems s out (unfilled 16 (length s) out)
+  write-record : {n i : ℕ} → length s ≤ 4096 → FirstVendorRow s n i → WritesItems s out (unfilled n i out)
+  write-11 : (rs : List Rec) → length s ≤ 4096 → RightSheet s rs
+      → (length out < length (optionBytes rs)) ⊎ (255 < length (optionBytes rs)) → WritesItems s out (unfilled 11 (length out) out)
+  writes : (rs : List Rec) → length s ≤ 4096 → RightSheet s rs
+      → length (optionBytes rs) ≤ length out → length (optionBytes rs) ≤ 255 → WritesItems s out (filled (optionBytes rs) out)
 
 -- no other answer is right, for a sheet of bytes, as every sheet handed to the code is
 abbrev pub VendorWriterIsCorrect : Type 0

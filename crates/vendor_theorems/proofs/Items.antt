@@ -1,8 +1,8 @@
 -- The reader gives the items that stand in the bytes, or the place where one runs past; no other answer is right. Assumes nothing.
 use mathlib.Core.Path.{_≡_, refl, sym, ap, ap₂, _∙_, subst}
-use mathlib.Core.List.{List, [], _∷_}
+use mathlib.Core.List.{List, [], _∷_, _++_}
 use mathlib.Core.Logic.{_⊎_, _↔_, inl, inr, ⊎-elim}
-use Prim.Native.Nat.{ℕ, _+_, _*_, _≤_, _<_}
+use Prim.Native.Nat.{ℕ, _+_, _*_, _/_, _%_, _≤_, _<_}
 use native.Mathlib.Omega.{arith}
 use native.Mathlib.Decide.{decLt}
 use lib.ListN.{length, drop, length-append}
@@ -12,7 +12,7 @@ use Rattle.options.specs.Refusals.{Beyond}
 use Rattle.options.specs.Reading.{Parse, parse}
 use Rattle.options.specs.Answers.{recordBytes, Filled, unfilled}
 use Rattle.options.specs.Vendor.{Item, itemAt, Items, listed, past, also, itemsIn, itemRecords, vendorIn, vendorRecords}
-use Rattle.options.specs.VendorClaims.{RunsPast, InItems, ItemPrecedes, ItemsOf, filled, ReadsItems, read-17, read-11, reads, VendorReaderIsCorrect, VendorRoomIsEnough}
+use Rattle.options.specs.VendorClaims.{RunsPast, InItems, ItemPrecedes, ItemsOf, filled, RecordsAre, no-item, one-item, ReadsItems, read-17, read-11, reads, VendorReaderIsCorrect, VendorRoomIsEnough}
 use Rattle.theorems.proofs.View as view
 use Rattle.theorems.proofs.View.{From, here, pad, from-le, begins-from, from-begins, Reads, r-none, r-pad, r-end, r-beyond, r-option}
 use Rattle.theorems.proofs.Fields.{nothing, pad-option, end-option, beyond-pad, beyond-end, beyond-option, option-same, from-none, from-end, from-beyond, from-pad, from-option, one-way, beyond-here, option-here, below, option-in}
@@ -119,35 +119,51 @@ items-same {f} {xs} {ys} a b =
     same-list xs ys (λ x h. b .lists x .1 (a .lists x .0 h)) (λ x h. a .lists x .1 (b .lists x .0 h))
     (λ x y h k. omega (arith, a .in-order x y h, b .in-order y x k)) (λ x h. omega (arith, a .in-order x x h)) (λ x h. omega (arith, b .in-order x x h))
 
+-- ---- items have one list of records: that of the definition
+
+records-are : (xs : List Item) → RecordsAre xs (recordBytes (itemRecords xs))
+unfolding itemRecords recordBytes
+records-are [] = no-item
+records-are (x ∷ xs) = one-item {x = x} (length (x .item .body) / 256) (length (x .item .body) % 256) (omega arith) (omega arith) (records-are xs)
+
+records-only : {xs : List Item} {b : List ℕ} → RecordsAre xs b → b ≡ recordBytes (itemRecords xs)
+unfolding itemRecords recordBytes
+records-only no-item = refl
+records-only (one-item {x = x} {xs = xs} {rest = rest} high low small size more) =
+    let hi : high ≡ length (x .item .body) / 256 = omega (arith, size) in
+    let lo : low ≡ length (x .item .body) % 256 = omega (arith, size) in
+    ap₂ (λ (h l : ℕ). x .item .tag ∷ h ∷ l ∷ (x .item .body ++ rest)) hi lo
+    ∙ ap (λ (l : List ℕ). x .item .tag ∷ length (x .item .body) / 256 ∷ length (x .item .body) % 256 ∷ (x .item .body ++ l)) (records-only more)
+
+pub records-same : {f b d : List ℕ} {xs ys : List Item} → ItemsOf f xs → RecordsAre xs b → ItemsOf f ys → RecordsAre ys d → b ≡ d
+records-same a x b y = records-only x ∙ ap (λ (l : List Item). recordBytes (itemRecords l)) (items-same a b) ∙ sym (records-only y)
+
 -- ---- the reader
 
 module _ (f old : List ℕ) where
   right : (w : Items) → Gives f 0 w → ReadsItems f old (vendorIn w old)
   right (past i) g = read-17 (record { begins = from-begins first (g .0); beyond = g .1 })
   right (listed xs) g = elim (decLt (length old) (length (recordBytes (itemRecords xs)))) [
-    | yes h ↦ rw (lt-ltb (length old) (length (recordBytes (itemRecords xs))) h) (read-11 xs (items-of f xs g) h)
+    | yes h ↦ rw (lt-ltb (length old) (length (recordBytes (itemRecords xs))) h) (read-11 xs (recordBytes (itemRecords xs)) (items-of f xs g) (records-are xs) h)
     | no h ↦
         let l : length (recordBytes (itemRecords xs)) ≤ length old = omega arith in
-        rw (le-ltb (length old) (length (recordBytes (itemRecords xs))) l) (reads xs (items-of f xs g) l)
+        rw (le-ltb (length old) (length (recordBytes (itemRecords xs))) l) (reads xs (recordBytes (itemRecords xs)) (items-of f xs g) (records-are xs) l)
   ]
 
   pub reads-right : ReadsItems f old (vendorRecords f old)
   unfolding vendorRecords
   reads-right = right (itemsIn (parse 0 0 f)) (gives f (view.reads f))
 
-  same-size : {xs ys : List Item} → ItemsOf f xs → ItemsOf f ys → length (recordBytes (itemRecords xs)) ≡ length (recordBytes (itemRecords ys))
-  same-size a b = ap (λ (l : List Item). length (recordBytes (itemRecords l))) (items-same a b)
-
   pub reads-only : (w v : Filled) → ReadsItems f old w → ReadsItems f old v → w ≡ v
   reads-only w v (read-17 a) (read-17 b) = ap (λ (i : ℕ). unfilled 17 i old) (past-once f a b)
-  reads-only w v (read-17 a) (read-11 ys b l) = absurd (b .none-past _ a)
-  reads-only w v (read-17 a) (reads ys b l) = absurd (b .none-past _ a)
-  reads-only w v (read-11 xs a l) (read-17 b) = absurd (a .none-past _ b)
-  reads-only w v (read-11 xs a l) (read-11 ys b k) = refl
-  reads-only w v (read-11 xs a l) (reads ys b k) = absurd (omega (arith, same-size a b))
-  reads-only w v (reads xs a l) (read-17 b) = absurd (a .none-past _ b)
-  reads-only w v (reads xs a l) (read-11 ys b k) = absurd (omega (arith, same-size a b))
-  reads-only w v (reads xs a l) (reads ys b k) = ap (λ (z : List Item). filled (recordBytes (itemRecords z)) old) (items-same a b)
+  reads-only w v (read-17 a) (read-11 ys d b y l) = absurd (b .none-past _ a)
+  reads-only w v (read-17 a) (reads ys d b y l) = absurd (b .none-past _ a)
+  reads-only w v (read-11 xs c a x l) (read-17 b) = absurd (a .none-past _ b)
+  reads-only w v (read-11 xs c a x l) (read-11 ys d b y k) = refl
+  reads-only w v (read-11 xs c a x l) (reads ys d b y k) = absurd (omega (arith, ap length (records-same a x b y)))
+  reads-only w v (reads xs c a x l) (read-17 b) = absurd (a .none-past _ b)
+  reads-only w v (reads xs c a x l) (read-11 ys d b y k) = absurd (omega (arith, ap length (records-same a x b y)))
+  reads-only w v (reads xs c a x l) (reads ys d b y k) = ap (λ (z : List ℕ). filled z old) (records-same a x b y)
 
   pub reads-iff : (w : Filled) → vendorRecords f old ≡ w ↔ ReadsItems f old w
   reads-iff w = (λ e. subst (λ (v : Filled). ReadsItems f old v) e reads-right, λ r. reads-only (vendorRecords f old) w reads-right r)
@@ -185,7 +201,7 @@ some-answer f xs a (listed ys) g = ap listed (items-same (items-of f ys g) a)
 
 pub vendor-room-is-enough : VendorRoomIsEnough
 unfolding vendorRecords
-vendor-room-is-enough f old xs a h =
+vendor-room-is-enough f old xs b a r h =
     let e : itemsIn (parse 0 0 f) ≡ listed xs = some-answer f xs a (itemsIn (parse 0 0 f)) (gives f (view.reads f)) in
     let l : Short f 0 (listed xs) = subst (Short f 0) e (shorts f (view.reads f) (omega arith)) in
-    rw (e, le-ltb (length old) (length (recordBytes (itemRecords xs))) (omega arith)) refl
+    rw (e, le-ltb (length old) (length (recordBytes (itemRecords xs))) (omega arith), records-only r) refl

@@ -1,6 +1,6 @@
 -- Cases of request 05, computed. Assumes nothing.
 use mathlib.Core.Path.{_≡_, refl}
-use mathlib.Core.List.{List, [], _∷_}
+use mathlib.Core.List.{List, [], _∷_, _++_}
 use Prim.Native.Nat.{ℕ}
 use lib.ListN.{replicate}
 use Rattle.options.specs.Reading.{parse}
@@ -42,6 +42,12 @@ cases =
     ∷ is (vendorWrite (1 ∷ 1 ∷ 0 ∷ replicate 256 0) []) (unfilled 13 0 [])
     ∷ is (vendorWrite (1 ∷ 0 ∷ 255 ∷ replicate 255 0) []) (unfilled 11 0 [])
     ∷ is (vendorWrite (1 ∷ 0 ∷ 0 ∷ []) (5 ∷ [])) (unfilled 11 1 (5 ∷ []))
+    -- 255 bytes are given, and 256 are not, with output enough for both
+    ∷ is (vendorWrite (1 ∷ 0 ∷ 253 ∷ replicate 253 7) (replicate 257 5)) (whole 255 (1 ∷ 253 ∷ (replicate 253 7 ++ (5 ∷ 5 ∷ []))))
+    ∷ is (vendorWrite (1 ∷ 0 ∷ 254 ∷ replicate 254 7) (replicate 257 5)) (unfilled 11 257 (replicate 257 5))
+    -- the longest items are read: 254 and 255 bytes of data
+    ∷ is (vendorRecords (1 ∷ 254 ∷ (replicate 254 7 ++ (2 ∷ 255 ∷ replicate 255 8))) (replicate 515 5))
+    (whole 515 (1 ∷ 0 ∷ 254 ∷ (replicate 254 7 ++ (2 ∷ 0 ∷ 255 ∷ replicate 255 8))))
     ∷ []
 
 abbrev gets : List Case → List Filled

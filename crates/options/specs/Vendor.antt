@@ -46,7 +46,7 @@ abbrev pub vendorIn : Items → List ℕ → Filled
 vendorIn (past i) old = unfilled 17 i old
 vendorIn (listed xs) old = filledWith (recordBytes (itemRecords xs)) old
 
--- [V1, V4] the items of the bytes f, walked as those of a field are: "lists items as records into a lent sheet", the buffer `old`
+-- [V1, V4] the items of the bytes f, walked as those of a field are: "lists items as records into a lent sheet" (document 01 calls a buffer of records so), the buffer `old`
 unfoldable pub vendorRecords : List ℕ → List ℕ → Filled
 unfolding parse itemsIn itemRecords recordBytes
 vendorRecords f old = vendorIn (itemsIn (parse 0 0 f)) old

@@ -36,7 +36,7 @@ pub record ItemsOf (f : List ℕ) (xs : List Item) : Type 0 where
   pub lists : (x : Item) → InItems x xs ↔ Stands f (x .offset) (x .item .tag) (x .item .body)
   pub in-order : (x y : Item) → ItemPrecedes x y xs → x .offset < y .offset
 
--- [O8] the bytes xs given at the start of a lent buffer: "bytes of the lent sheet, or of any other lent output, past what is given stay"
+-- [O8] the bytes xs given at the start of a lent buffer (document 01: "bytes of the lent sheet, or of any other lent output, past what is given stay")
 abbrev pub filled : List ℕ → List ℕ → Filled
 filled xs old = record { answer = given (length xs); buffer = xs ++ drop (length xs) old }
 

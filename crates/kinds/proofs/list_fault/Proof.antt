@@ -2,6 +2,7 @@
 use borrow.Author.Needs.{needs}
 use borrow.Author.Tests.{ne-eqb}
 use native.Mathlib.Omega.{arith}
+use mathlib.Core.Path.{_≡_}
 use Prim.Native.Nat.{_%_}
 use mir.Syntax.{Arms}
 use Rattle.options.specs.Kinds.{valueFault}
@@ -24,7 +25,10 @@ or-nine-requires c κs = search needs
 
 returns : tie.Need-returns
 unfolding rowAt valueFault
-returns c = rw (c .before .before .if1 .taken, ← c .before .destinations-fit .ensures) (c .or-nine .ensures)
+returns c =
+    let t = c .before .before in
+    let e : t .before .before .before .args .row ≡ 19 = omega (arith, t .if1 .taken) in
+    rw (e, ← c .before .destinations-fit .ensures) (c .or-nine .ensures)
 
 never-falling-requires : tie.Need-never-falling-requires
 never-falling-requires c κs = search needs
@@ -39,7 +43,9 @@ or-nine-requires-3 : tie.Need-or-nine-requires-3
 or-nine-requires-3 c κs = search needs
 
 returns-2 : tie.Need-returns-2
-returns-2 c = rw (list-3 _ (omega arith) (c .before .match .keys1), ne-eqb _ _ (c .if1 .left))
+returns-2 c =
+    let n = c .before .before .before .args .row in
+    rw (list-3 n (omega arith) (c .before .match .keys1), ne-eqb n 19 (λ e. omega (arith, c .if1 .left, c .before .match .keys1, e)))
 
 returns-3 : tie.Need-returns-3
 unfolding valueFault

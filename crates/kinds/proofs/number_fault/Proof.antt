@@ -1,9 +1,10 @@
 -- `kinds::number_fault` meets its contract, arm by arm. Assumes nothing.
 use borrow.Author.Needs.{needs}
 use native.Mathlib.Omega.{arith}
+use mathlib.Core.Path.{_≡_, ap, _∙_}
 use Prim.Native.Nat.{_%_}
 use mir.Syntax.{Arms}
-use Rattle.options.specs.Kinds.{valueFault}
+use Rattle.options.specs.Kinds.{fromTo, orNine, valueFault}
 use Rattle.kinds.proofs.Entries.{armsOf, unlisted}
 use Rattle.kinds.proofs.ByKind.{list-4, list-5, list-6, value-4, octet-rule, number16-rule, numberless, no-number}
 use Rattle.kinds.proofs.number_fault.Statement.{statement}
@@ -45,7 +46,8 @@ returns : tie.Need-returns
 unfolding valueFault
 returns c =
     let k = c .before .before .before .match .keys1 in
-    rw (list-4 _ (omega arith) k, value-4 _ (omega arith) k, ← c .before .before .byte .ensures, ← c .before .from-to .ensures) (c .or-nine .ensures)
+    let e : c .before .from-to .result ≡ fromTo 0 1 (c .before .before .byte .result) = c .before .from-to .ensures in
+    rw (list-4 _ (omega arith) k, value-4 _ (omega arith) k, ← c .before .before .byte .ensures) (c .or-nine .ensures ∙ ap orNine e)
 
 returns-2 : tie.Need-returns-2
 returns-2 c =

@@ -30,8 +30,17 @@ whole-kept : (w : asked.Wholeness)
 whole-kept asked.inOne = refl
 whole-kept (asked.inPieces n) = refl
 
+origin-back : (g : asked.Origin)
+    → both (λ (fd : Field) (w : asked.Wholeness). record { field = fd; offset = g .offset; wholeness = w }) (fieldAt (fieldNumber (g .field)))
+    (cond (eqb (plainSeveral (g .wholeness)) 0) (some asked.inOne) (cond (eqb (plainSeveral (g .wholeness)) 1) (some (asked.inPieces (plainWhole (g .wholeness)))) none)) ≡ some g
+origin-back g = rw (field-kept (g .field), whole-kept (g .wholeness))
+
+-- the same of every content: case by case, since each is told by members of its own
 origin-kept : (g : asked.Origin) (x : asked.Content) → originFrom (plainAnswer (asked.Found g x)) ≡ some g
-origin-kept g x = rw (field-kept (g .field), whole-kept (g .wholeness))
+origin-kept g (asked.unknown n) = origin-back g
+origin-kept g (asked.known (broken n)) = origin-back g
+origin-kept g (asked.known (number k z)) = origin-back g
+origin-kept g (asked.known (part k n)) = origin-back g
 
 found-kept : (g : asked.Origin) (x : asked.Content) (y : Option asked.Content) → y ≡ some x → both asked.Found (originFrom (plainAnswer (asked.Found g x))) y ≡ some (asked.Found g x)
 found-kept g x y e = rw (origin-kept g x, e)

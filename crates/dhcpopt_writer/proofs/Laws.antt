@@ -1,5 +1,6 @@
 -- What C gets tells what the definition gives. Assumes nothing.
-use mathlib.Core.Path.{_≡_, refl}
+use mathlib.Core.Path.{_≡_, refl, ap}
+use mathlib.Core.Bool.{Bool, cond}
 use mathlib.Core.List.{List}
 use Prim.Native.Nat.{ℕ}
 use native.Mathlib.Omega.{arith}
@@ -26,7 +27,7 @@ plain-answer single (options.declined n p) = refl
 
 back : (w : options.Wrote) (m : List ℕ) → ((n p : ℕ) → w ≡ options.declined n p → n ≡ 0 → ⊥) → outcomeOf (plainWrote w) (options.bufferAfter m w) ≡ w
 back (options.wrote p b) m h = refl
-back (options.declined n p) m h = rw (ne-eqb n 0 (h n p refl))
+back (options.declined n p) m h = ap (λ (b : Bool). cond b (options.wrote 0 m) (options.declined n p)) (ne-eqb n 0 (h n p refl))
 
 pub plain-loses-nothing : PlainLosesNothing
 plain-loses-nothing s m permission = back (options.writer kinds s m permission) m (refusals-are-numbered s m permission)

@@ -1,6 +1,8 @@
 /*
  * compare messages FILE...   makes every reading call on each message by the library and in plain C, and stops where they differ;
  *                            looks up three codes also with any byte changed
+ * compare index FILE...      builds an index of each message with both, also with any byte changed, and looks up every code through it and through
+ *                            others; an index of the same bytes must give the answers of the plain lookup
  * compare sheets FILE...     writes each sheet with both: every buffer size, every permission, cut off anywhere, any byte changed
  * compare vendor FILE...     reads each as items with both, and writes it as records of items: every room, cut off anywhere, any byte changed
  */
@@ -17,10 +19,8 @@ static size_t size;
 
 static const uint64_t every[4] = {UINT64_MAX, UINT64_MAX, UINT64_MAX, UINT64_MAX};
 
-static void compare_lookup(const char *name, const uint64_t known[4], uint8_t code)
+static void compare_answers(const char *name, uint8_t code, plain_answer p, dhcpopt_answer l)
 {
-    plain_answer p = plain_lookup(in, size, known, code);
-    dhcpopt_answer l = dhcpopt_lookup(in, size, known[0], known[1], known[2], known[3], code);
     if (p.status != l.status || p.kind != l.kind || p.refusal != l.refusal || p.field != l.field || p.number != l.number ||
         p.place != l.place || p.offset != l.offset || p.start != l.start || p.length != l.length || p.whole != l.whole ||
         p.several != l.several) {
@@ -29,6 +29,75 @@ static void compare_lookup(const char *name, const uint64_t known[4], uint8_t co
                 p.status, p.kind, p.refusal, p.field, (long long)p.number, p.place, p.offset, p.start, p.length, p.whole, p.several,
                 l.status, l.kind, l.refusal, l.field, (long long)l.number, l.place, l.offset, l.start, l.length, l.whole, l.several);
         fail("answers differ", name);
+    }
+}
+
+static void compare_lookup(const char *name, const uint64_t known[4], uint8_t code)
+{
+    compare_answers(name, code, plain_lookup(in, size, known, code),
+                    dhcpopt_lookup(in, size, known[0], known[1], known[2], known[3], code));
+}
+
+/* Through an index of count numbers; fresh: it was built from the same bytes. */
+static void compare_indexed(const char *name, const uint16_t *index, size_t count, const uint64_t known[4], uint8_t code, int fresh)
+{
+    dhcpopt_answer l = dhcpopt_index_lookup(in, size, index, count, known[0], known[1], known[2], known[3], code);
+    compare_answers(name, code, plain_index_lookup(in, size, index, count, known, code), l);
+    if (fresh)
+        compare_answers(name, code, plain_lookup(in, size, known, code), l);
+}
+
+/* Both build into count numbers; the index is left there. */
+static uint32_t compare_build(const char *name, uint16_t index[258], size_t count)
+{
+    static uint16_t a[258], b[258];
+    memset(a, UNTOUCHED, sizeof a);
+    memset(b, UNTOUCHED, sizeof b);
+    plain_filled p = plain_index_build(in, size, a, count);
+    dhcpopt_filled l = dhcpopt_index_build(in, size, b, count);
+    if (p.refusal != l.refusal || p.size != l.size || p.place != l.place || memcmp(a, b, sizeof a) != 0)
+        fail("indexes differ", name);
+    memcpy(index, b, sizeof b);
+    return l.refusal;
+}
+
+static void compare_index(const char *name)
+{
+    static const uint64_t some[4] = {0x5555555555555555, 0x3333333333333333, 0x0F0F0F0F0F0F0F0F, 0x00FF00FF00FF00FF};
+    static uint16_t fresh[258], any[258];
+    compare_build(name, fresh, 0);
+    compare_build(name, fresh, 255);
+    compare_build(name, fresh, 257);
+    uint32_t refusal = compare_build(name, fresh, 256);
+    for (unsigned c = 0; c < 256; c++) {
+        compare_indexed(name, fresh, 256, every, (uint8_t)c, refusal == 0);
+        compare_indexed(name, fresh, 256, some, (uint8_t)c, refusal == 0);
+        compare_indexed(name, fresh, 255, every, (uint8_t)c, 0);
+        compare_indexed(name, fresh, 257, every, (uint8_t)c, 0);
+    }
+    /* Every entry that a message may have, and past it: the code that stands there, another, and all that stand in the message. */
+    for (unsigned e = 0; e <= 65535; e = e == size + 300 ? 65530 : e + 1) {
+        for (unsigned c = 0; c < 256; c++)
+            any[c] = (uint16_t)e;
+        compare_indexed(name, any, 256, every, e < size ? in[e] : 51, 0);
+        compare_indexed(name, any, 256, every, 51, 0);
+        compare_indexed(name, any, 256, some, 43, 0);
+    }
+    /* A byte changed: the old index, and one that is built anew. */
+    for (size_t i = 44; i < size; i++) {
+        uint8_t was = in[i];
+        for (unsigned x = 0; x < 256; x += 15) {
+            in[i] = (uint8_t)x;
+            refusal = compare_build(name, any, 256);
+            static const uint8_t codes[] = {0, 1, 12, 43, 51, 52, 53, 255};
+            for (size_t k = 0; k < sizeof codes; k++) {
+                compare_indexed(name, fresh, 256, every, codes[k], 0);
+                compare_indexed(name, any, 256, every, codes[k], refusal == 0);
+            }
+            compare_indexed(name, fresh, 256, every, was, 0);
+            compare_indexed(name, any, 256, every, (uint8_t)x, refusal == 0);
+        }
+        in[i] = was;
     }
 }
 
@@ -174,12 +243,14 @@ static void compare_vendor(const char *name)
 int main(int argc, char **argv)
 {
     if (argc < 3)
-        fail("usage", "compare messages|sheets|vendor FILE...");
+        fail("usage", "compare messages|index|sheets|vendor FILE...");
     for (int i = 2; i < argc; i++) {
         memset(in, 0, sizeof in);
         size = take(argv[i], in, sizeof in);
         if (strcmp(argv[1], "sheets") == 0)
             compare_sheet(argv[i]);
+        else if (strcmp(argv[1], "index") == 0)
+            compare_index(argv[i]);
         else if (strcmp(argv[1], "vendor") == 0)
             compare_vendor(argv[i]);
         else {

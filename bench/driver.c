@@ -3,7 +3,7 @@
  * driver time CALL FILE [NUMBER...]                 prints the nanoseconds of a call: plain C's, plain Rust's and the library's
  *
  * FILE is a message, the sheet to write, or for vendor_records the data of an option 43.
- * The numbers: the code for lookup, data and copy; the buffer's size and the permission for write.
+ * The numbers: the code for lookup, data, copy and index_lookup; the buffer's size and the permission for write.
  * The library's side is left out unless LIBRARY is defined, Rust's unless RUST is.
  */
 #define _POSIX_C_SOURCE 199309L
@@ -21,6 +21,11 @@ enum { ROOM = 4096, CALLS = 2000, REPETITIONS = 500 };
 static uint8_t in[ROOM], out[ROOM];
 static size_t size, room;
 static uint8_t code, permission;
+static uint16_t numbers[256];
+
+/* The codes that a service asks for: ten that an offer has, and twenty more. */
+static const uint8_t thirty[] = {1,  2,  3,  4,  6,  7,  12, 13, 15, 16, 17, 23, 26, 28, 33,
+                                 40, 42, 43, 44, 50, 51, 53, 54, 55, 57, 58, 59, 60, 61, 66};
 
 static const uint64_t every[4] = {UINT64_MAX, UINT64_MAX, UINT64_MAX, UINT64_MAX};
 
@@ -30,6 +35,17 @@ static bool data_plain(void) { return plain_data(in, size, code).length > 0; }
 static bool copy_plain(void) { return plain_copy(in, size, code, out, ROOM).refusal == 0; }
 static bool present_plain(void) { return plain_present(in, size).refusal == 0; }
 static bool records_plain(void) { return plain_records(in, size, out, ROOM).refusal == 0; }
+static bool index_build_plain(void) { return plain_index_build(in, size, numbers, 256).refusal == 0; }
+static bool index_lookup_plain(void) { return plain_index_lookup(in, size, numbers, 256, every, code).refusal == 0; }
+/* A loop of its own for each side, of which the calls are counted too. */
+__attribute__((noinline)) static bool plain_thirty(void)
+{
+    bool good = index_build_plain();
+    for (size_t i = 0; i < sizeof thirty; i++)
+        good &= plain_index_lookup(in, size, numbers, 256, every, thirty[i]).refusal == 0;
+    return good;
+}
+static bool thirty_plain(void) { return plain_thirty(); }
 static bool write_plain(void) { return plain_write(in, size, out, room, permission).refusal == 0; }
 static bool vendor_records_plain(void) { return plain_vendor_records(in, size, out, ROOM).refusal == 0; }
 static bool vendor_write_plain(void) { return plain_vendor_write(in, size, out, ROOM).refusal == 0; }
@@ -41,6 +57,19 @@ static bool data_library(void) { return dhcpopt_data(in, size, code).length > 0;
 static bool copy_library(void) { return dhcpopt_copy(in, size, code, out, ROOM).refusal == 0; }
 static bool present_library(void) { return dhcpopt_present(in, size).refusal == 0; }
 static bool records_library(void) { return dhcpopt_records(in, size, out, ROOM).refusal == 0; }
+static bool index_build_library(void) { return dhcpopt_index_build(in, size, numbers, 256).refusal == 0; }
+static bool index_lookup_library(void)
+{
+    return dhcpopt_index_lookup(in, size, numbers, 256, every[0], every[1], every[2], every[3], code).refusal == 0;
+}
+__attribute__((noinline)) static bool dhcpopt_thirty(void)
+{
+    bool good = index_build_library();
+    for (size_t i = 0; i < sizeof thirty; i++)
+        good &= dhcpopt_index_lookup(in, size, numbers, 256, every[0], every[1], every[2], every[3], thirty[i]).refusal == 0;
+    return good;
+}
+static bool thirty_library(void) { return dhcpopt_thirty(); }
 static bool write_library(void) { return dhcpopt_write(in, size, out, room, permission).refusal == 0; }
 static bool vendor_records_library(void) { return dhcpopt_vendor_records(in, size, out, ROOM).refusal == 0; }
 static bool vendor_write_library(void) { return dhcpopt_vendor_write(in, size, out, ROOM).refusal == 0; }
@@ -55,6 +84,9 @@ dhcpopt_extent independent_data(const uint8_t *m, size_t n, uint8_t code);
 dhcpopt_filled independent_copy(const uint8_t *m, size_t n, uint8_t code, uint8_t *out, size_t room);
 dhcpopt_codes independent_present(const uint8_t *m, size_t n);
 dhcpopt_filled independent_records(const uint8_t *m, size_t n, uint8_t *out, size_t room);
+dhcpopt_filled independent_index_build(const uint8_t *m, size_t n, uint16_t *index, size_t count);
+dhcpopt_answer independent_index_lookup(const uint8_t *m, size_t n, const uint16_t *index, size_t count, uint64_t k0, uint64_t k1,
+                                        uint64_t k2, uint64_t k3, uint8_t code);
 dhcpopt_wrote independent_write(const uint8_t *sheet, size_t n, uint8_t *m, size_t room, uint8_t permission);
 dhcpopt_filled independent_vendor_records(const uint8_t *bytes, size_t n, uint8_t *out, size_t room);
 dhcpopt_filled independent_vendor_write(const uint8_t *sheet, size_t n, uint8_t *out, size_t room);
@@ -63,6 +95,19 @@ static bool data_rust(void) { return independent_data(in, size, code).length > 0
 static bool copy_rust(void) { return independent_copy(in, size, code, out, ROOM).refusal == 0; }
 static bool present_rust(void) { return independent_present(in, size).refusal == 0; }
 static bool records_rust(void) { return independent_records(in, size, out, ROOM).refusal == 0; }
+static bool index_build_rust(void) { return independent_index_build(in, size, numbers, 256).refusal == 0; }
+static bool index_lookup_rust(void)
+{
+    return independent_index_lookup(in, size, numbers, 256, every[0], every[1], every[2], every[3], code).refusal == 0;
+}
+__attribute__((noinline)) static bool independent_thirty(void)
+{
+    bool good = index_build_rust();
+    for (size_t i = 0; i < sizeof thirty; i++)
+        good &= independent_index_lookup(in, size, numbers, 256, every[0], every[1], every[2], every[3], thirty[i]).refusal == 0;
+    return good;
+}
+static bool thirty_rust(void) { return independent_thirty(); }
 static bool write_rust(void) { return independent_write(in, size, out, room, permission).refusal == 0; }
 static bool vendor_records_rust(void) { return independent_vendor_records(in, size, out, ROOM).refusal == 0; }
 static bool vendor_write_rust(void) { return independent_vendor_write(in, size, out, ROOM).refusal == 0; }
@@ -79,7 +124,7 @@ typedef struct {
 
 static const char *const names[3] = {"plain", "rust", "library"};
 static const call_sides calls[] = {SIDES(lookup), SIDES(data), SIDES(copy), SIDES(present), SIDES(records), SIDES(write),
-                                   SIDES(vendor_records), SIDES(vendor_write)};
+                                   SIDES(vendor_records), SIDES(vendor_write), SIDES(index_build), SIDES(index_lookup), SIDES(thirty)};
 
 static const call_sides *find(const char *name)
 {
@@ -126,6 +171,9 @@ int main(int argc, char **argv)
     }
     if (room > sizeof out)
         fail("no such buffer", argv[4]);
+    /* An index for index_lookup, built by the side that is not counted. */
+    if (strcmp(argv[2], "index_lookup") == 0)
+        plain_index_build(in, size, numbers, 256);
     if (strcmp(argv[1], "time") == 0) {
         time_all(c);
         return 0;

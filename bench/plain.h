@@ -1,4 +1,4 @@
-/* The reader and writer of document 01, with requests 01 to 05 of document 02, in plain C: the measure for the library's calls. */
+/* The reader and writer of document 01, with requests 01 to 07 of document 02, in plain C: the measure for the library's calls. */
 #ifndef PLAIN_H
 #define PLAIN_H
 
@@ -69,6 +69,8 @@ plain_filled plain_copy(const uint8_t *m, size_t n, uint8_t code, uint8_t *out, 
 plain_codes plain_present(const uint8_t *m, size_t n);
 plain_filled plain_records(const uint8_t *m, size_t n, uint8_t *out, size_t room);
 size_t plain_list(const uint8_t *m, size_t n, plain_piece *out); /* the pieces of an accepted message, for check.c; how many */
+plain_filled plain_index_build(const uint8_t *m, size_t n, uint16_t *index, size_t count);
+plain_answer plain_index_lookup(const uint8_t *m, size_t n, const uint16_t *index, size_t count, const uint64_t known[4], uint8_t code);
 plain_wrote plain_write(const uint8_t *sheet, size_t n, uint8_t *m, size_t room, uint8_t permission);
 plain_filled plain_vendor_records(const uint8_t *bytes, size_t n, uint8_t *out, size_t room);
 plain_filled plain_vendor_write(const uint8_t *sheet, size_t n, uint8_t *out, size_t room);

@@ -244,6 +244,45 @@ static void present(void)
     CHECK(c.refusal == DHCPOPT_REFUSED_NO_END && c.place == n - 1);
 }
 
+/* 43 in two pieces, 53 between them, 52 for file, and there 51; behind END 53 once more. */
+static void indexed(void)
+{
+    dhcpopt_known all = dhcpopt_known_all();
+    size_t n = OVERLOADED("\x2b\x01\x07\x35\x01\x05\x2b\x01\x08\x34\x01\x01\xff\x35\x01\x02", "\x33\x04\x00\x00\x0e\x10\xff", "");
+    uint16_t index[257];
+    memset(index, 238, sizeof index);
+    dhcpopt_filled f = dhcpopt_index_build(message, n, index, 255);
+    CHECK(f.refusal == DHCPOPT_REFUSED_BAD_INDEX_COUNT && f.size == 0 && f.place == 255);
+    f = dhcpopt_index_build(message, n, index, 257);
+    CHECK(f.refusal == DHCPOPT_REFUSED_BAD_INDEX_COUNT && f.size == 0 && f.place == 257);
+    f = dhcpopt_index_build(message, 239, index, 255);
+    CHECK(f.refusal == DHCPOPT_REFUSED_TOO_SHORT && f.size == 0 && f.place == 239);
+    CHECK(index[0] == 61166 && memcmp(index, index + 1, sizeof index - sizeof index[0]) == 0);
+    f = dhcpopt_index_build(message, n, index, DHCPOPT_INDEX_COUNT);
+    CHECK(f.refusal == DHCPOPT_NOT_REFUSED && f.size == 512 && f.place == 0);
+    CHECK(index[43] == DHCPOPT_INDEX_PIECES && index[53] == 243 && index[52] == 249 && index[51] == 108);
+    CHECK(index[0] == 0 && index[12] == DHCPOPT_INDEX_ABSENT && index[255] == 0 && index[256] == 61166);
+    for (unsigned c = 0; c < 256; c++) {
+        dhcpopt_answer a = dhcpopt_index_lookup_known(message, n, index, 256, all, (uint8_t)c);
+        dhcpopt_answer b = dhcpopt_lookup_known(message, n, all, (uint8_t)c);
+        CHECK(a.status == b.status && a.kind == b.kind && a.refusal == b.refusal && a.field == b.field && a.number == b.number);
+        CHECK(a.place == b.place && a.offset == b.offset && a.start == b.start && a.length == b.length);
+        CHECK(a.whole == b.whole && a.several == b.several);
+    }
+    CHECK(refuses(dhcpopt_index_lookup_known(message, n, index, 257, all, 53), DHCPOPT_REFUSED_BAD_INDEX_COUNT, 257));
+    CHECK(refuses(dhcpopt_index_lookup_known(message, n, index, 255, all, 0), DHCPOPT_REFUSED_BAD_CODE, 0));
+    index[53] = 240; /* another code */
+    CHECK(refuses(dhcpopt_index_lookup_known(message, n, index, 256, all, 53), DHCPOPT_REFUSED_BAD_INDEX_ENTRY, 240));
+    index[53] = 236; /* the cookie */
+    CHECK(refuses(dhcpopt_index_lookup_known(message, n, index, 256, all, 53), DHCPOPT_REFUSED_BAD_INDEX_ENTRY, 236));
+    index[53] = 253; /* behind END */
+    CHECK(dhcpopt_index_lookup_known(message, n, index, 256, all, 53).number == 2);
+    index[53] = DHCPOPT_INDEX_PIECES;
+    CHECK(dhcpopt_index_lookup_known(message, n, index, 256, all, 53).number == 5);
+    index[53] = DHCPOPT_INDEX_ABSENT;
+    CHECK(is_absent(dhcpopt_index_lookup_known(message, n, index, 256, all, 53)));
+}
+
 static void records(void)
 {
     static const uint8_t wanted[9] = {51, 0, 4, 0, 0, 14, 16, 238, 238};
@@ -362,6 +401,7 @@ int main(void)
     texts();
     address_step();
     present();
+    indexed();
     records();
     write_sheet();
     write_long();

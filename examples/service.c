@@ -186,9 +186,17 @@ static int read_settings(size_t size, dhcpopt_known known)
         return REFUSED;
     }
     printf("accepted: %zu bytes, %" PRIu32 " codes\n", size, codes.count);
+    /* Every setting is looked up: so the message is walked once more, and not for each of them. An accepted message has an index. */
+    uint16_t index[DHCPOPT_INDEX_COUNT];
+    dhcpopt_filled built = dhcpopt_index_build(message, size, index, DHCPOPT_INDEX_COUNT);
+    if (built.refusal != DHCPOPT_NOT_REFUSED) {
+        tell_refusal("refused", built.refusal, built.place);
+        printf("\n");
+        return REFUSED;
+    }
     int result = DONE;
     for (size_t i = 0; i < sizeof SETTINGS / sizeof SETTINGS[0]; i++) {
-        dhcpopt_answer a = dhcpopt_lookup_known(message, size, known, SETTINGS[i].code);
+        dhcpopt_answer a = dhcpopt_index_lookup_known(message, size, index, DHCPOPT_INDEX_COUNT, known, SETTINGS[i].code);
         printf("%s (%d): ", SETTINGS[i].name, SETTINGS[i].code);
         tell_answer(size, SETTINGS[i].code, &a, SETTINGS[i].unit);
         if (a.status == DHCPOPT_STATUS_REFUSED || a.status == DHCPOPT_STATUS_BROKEN)

@@ -1,12 +1,14 @@
 /*
  * The options of one DHCPv4 message (RFC 2131, RFC 2132, RFC 3396): a reader and a writer, for C11 and C++17 on x86-64 Linux.
  *
- * libdhcpopt_reader.a has every call but dhcpopt_write and dhcpopt_vendor_write, and libdhcpopt_writer.a has these two alone, so a meter
- * that only reads links the reader's archive alone. docs/C-API.md has an example of each call.
+ * libdhcpopt_reader.a has every call but dhcpopt_write, dhcpopt_vendor_write and the two of an index; libdhcpopt_writer.a has the two that
+ * write alone, and libdhcpopt_index.a has dhcpopt_index_build and dhcpopt_index_lookup alone. So a meter that only reads links the
+ * reader's archive alone. docs/C-API.md has an example of each call.
  *
  * For every call:
- * - A message or sheet is a pointer and its number of bytes. The pointer is never null, also where that number is 0.
- * - What a call writes to (out, buffer) overlaps nothing else that it is given.
+ * - A message or sheet is a pointer and its number of bytes, an index a pointer and its count of numbers. The pointer is never null, also
+ *   where that number is 0.
+ * - What a call writes to (out, buffer, the index that is built) overlaps nothing else that it is given.
  * - A place counts bytes, from 0 at the first one. A place of the message counts from the message's first byte, in every field.
  * - A refusal has a number, one of DHCPOPT_REFUSED_*, and a place. It changes no byte of the caller's.
  * - A member that an answer does not need is 0.
@@ -27,9 +29,10 @@
  * dhcpopt_copy gives their bytes. docs/C-API.md, 'What changed in version 3', says what to do.
  * 3.1: a text with a byte over 127, or with a zero before a byte that is not 0, is broken (9), and the writer refuses it.
  * 3.2: dhcpopt_vendor_records and dhcpopt_vendor_write, for what is inside option 43 (RFC 2132, 8.4).
+ * 3.3: dhcpopt_index_build and dhcpopt_index_lookup: an index of a message, for many lookups of one message.
  */
 #define DHCPOPT_VERSION_MAJOR 3
-#define DHCPOPT_VERSION_MINOR 2
+#define DHCPOPT_VERSION_MINOR 3
 #define DHCPOPT_VERSION (100 * DHCPOPT_VERSION_MAJOR + DHCPOPT_VERSION_MINOR)
 
 #include <stddef.h>
@@ -67,6 +70,13 @@ enum dhcpopt_limit {
     DHCPOPT_LONGEST_VENDOR = 255  /* that dhcpopt_vendor_write gives */
 };
 
+/* An index of a message: a number for each code. */
+enum dhcpopt_index {
+    DHCPOPT_INDEX_COUNT = 256,      /* numbers of 16 bits, that of code c at c */
+    DHCPOPT_INDEX_ABSENT = 0,       /* the code is absent */
+    DHCPOPT_INDEX_PIECES = 65535    /* it comes in two or more pieces. Any other number is the place of the code byte */
+};
+
 /*
  * What a lookup found, and after the colon what the answer then gives. From an option, which is every status but ABSENT and REFUSED, it
  * also gives where that option stands: field, offset and start. Of a code in several pieces that is the first of them, and a kind, number
@@ -75,7 +85,7 @@ enum dhcpopt_limit {
 enum dhcpopt_status {
     DHCPOPT_STATUS_ABSENT = 0,
     DHCPOPT_STATUS_UNKNOWN = 1, /* the code is not in the known set, or has no kind: length of its data */
-    DHCPOPT_STATUS_REFUSED = 2, /* the message, or the code asked for, is refused: refusal (1 to 7, 10) and place */
+    DHCPOPT_STATUS_REFUSED = 2, /* the message, or the code asked for, is refused: refusal (1 to 7, 10; through an index 18, 19) and place */
     DHCPOPT_STATUS_NUMBER = 3,  /* kind and number */
     DHCPOPT_STATUS_PART = 4,    /* kind, and length of its bytes. Unless several is 1 they begin at start; else dhcpopt_copy gives them */
     DHCPOPT_STATUS_BROKEN = 5   /* length or value of this option is wrong: refusal (8 or 9), and place, that of its code byte */
@@ -106,7 +116,8 @@ enum dhcpopt_kind {
 };
 
 /*
- * Why a call is refused, and after the colon what its place then is. Reading gives 1 to 7, 10 and 11; writing gives 1, 2 and 7 to 16.
+ * Why a call is refused, and after the colon what its place then is. Reading gives 1 to 7, 10 and 11, with an
+ * index also 18 and 19; writing gives 1, 2 and 7 to 16.
  * dhcpopt_vendor_records gives 11 and 17, dhcpopt_vendor_write 10 to 13 and 16.
  * In reading 8 and 9 refuse nothing: they say why an option is broken, in a lookup's answer of DHCPOPT_STATUS_BROKEN.
  */
@@ -128,7 +139,9 @@ enum dhcpopt_refusal {
     DHCPOPT_REFUSED_ROUTER_BEFORE_MASK = 14, /* tag 3 stands before tag 1: the byte of tag 3 */
     DHCPOPT_REFUSED_BAD_PERMISSION = 15,     /* permission over 3: 0 */
     DHCPOPT_REFUSED_SHEET_TOO_LONG = 16,     /* sheet over 4,096 bytes: its length */
-    DHCPOPT_REFUSED_ITEM_TRUNCATED = 17      /* length byte or data of an item beyond the bytes: its code byte */
+    DHCPOPT_REFUSED_ITEM_TRUNCATED = 17,     /* length byte or data of an item beyond the bytes: its code byte */
+    DHCPOPT_REFUSED_BAD_INDEX_COUNT = 18,    /* an index not of 256 numbers: their count */
+    DHCPOPT_REFUSED_BAD_INDEX_ENTRY = 19     /* an entry of an index that does not fit the message: the entry */
 };
 
 /* Permissions to overload, and the plans that the writer may then use: the value of option 52, or 0 without it. */
@@ -176,7 +189,7 @@ typedef struct {
     size_t place;
 } dhcpopt_codes;
 
-/* What dhcpopt_records, dhcpopt_copy, dhcpopt_vendor_records or dhcpopt_vendor_write gave: size bytes, or a refusal. */
+/* What dhcpopt_records, dhcpopt_copy, dhcpopt_vendor_records, dhcpopt_vendor_write or dhcpopt_index_build gave: size bytes, or a refusal. */
 typedef struct {
     uint32_t refusal; /* DHCPOPT_NOT_REFUSED, or size is 0 */
     size_t size;
@@ -269,6 +282,25 @@ dhcpopt_wrote dhcpopt_write(const uint8_t *sheet, size_t sheet_size, uint8_t *bu
  */
 dhcpopt_filled dhcpopt_vendor_write(const uint8_t *sheet, size_t sheet_size, uint8_t *out, size_t room);
 
+/*
+ * Builds the index of a message into count numbers, all of which it writes: for each code the place of its byte, DHCPOPT_INDEX_ABSENT or
+ * DHCPOPT_INDEX_PIECES. The message is walked once. It gives 512 bytes: 256 numbers of two.
+ * A refusal leaves all numbers as they were. Refused, in this order: 1 or 2 at the length; 3 at 236; 18 at count where that is not 256;
+ * then 4 to 7, with places as in dhcpopt_lookup.
+ */
+dhcpopt_filled dhcpopt_index_build(const uint8_t *message, size_t size, uint16_t *index, size_t count);
+
+/*
+ * Looks up a code through an index. With an index that was built from the same bytes the answer is that of dhcpopt_lookup, in every
+ * member; the message is walked only for a code in pieces. Build the index anew where the message changed: with any other index 0 says
+ * absent, 65,535 is looked up as dhcpopt_lookup does, and any other entry is used only if it lies in options, file or sname, its byte is
+ * the code, and length and data lie in that field (active or not, before END or behind it).
+ * Refused, in this order: 10 at 0; 1 or 2 at the length; 3 at 236; 18 at count where that is not 256; 19 at the entry that is not used;
+ * and 4 to 7, with places as in dhcpopt_lookup, where the message is walked.
+ */
+dhcpopt_answer dhcpopt_index_lookup(const uint8_t *message, size_t size, const uint16_t *index, size_t count, uint64_t k0, uint64_t k1,
+                                    uint64_t k2, uint64_t k3, uint8_t code);
+
 /* A set of known codes. Begin with {{0, 0, 0, 0}} or with dhcpopt_known_all. */
 typedef struct {
     uint64_t words[4];
@@ -289,6 +321,12 @@ static inline dhcpopt_known dhcpopt_known_with(dhcpopt_known known, uint8_t code
 static inline dhcpopt_answer dhcpopt_lookup_known(const uint8_t *message, size_t size, dhcpopt_known known, uint8_t code)
 {
     return dhcpopt_lookup(message, size, known.words[0], known.words[1], known.words[2], known.words[3], code);
+}
+
+static inline dhcpopt_answer dhcpopt_index_lookup_known(const uint8_t *message, size_t size, const uint16_t *index, size_t count,
+                                                        dhcpopt_known known, uint8_t code)
+{
+    return dhcpopt_index_lookup(message, size, index, count, known.words[0], known.words[1], known.words[2], known.words[3], code);
 }
 
 static inline dhcpopt_extent dhcpopt_text_known(const uint8_t *message, size_t size, dhcpopt_known known, uint8_t code)

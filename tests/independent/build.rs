@@ -7,9 +7,10 @@ use std::{env, fs, path::Path};
 include!("build/variants.rs");
 
 /// The files of src/rules that are copied, each with those it is used by.
-const FILES: [(&str, &[&str]); 4] = [
+const FILES: [(&str, &[&str]); 5] = [
     ("kinds.rs", &["kinds.rs", "reading.rs", "writing.rs"]),
     ("reading.rs", &["reading.rs"]),
+    ("index.rs", &["index.rs"]),
     ("writing.rs", &["writing.rs"]),
     ("vendor.rs", &["vendor.rs"]),
 ];
@@ -27,7 +28,7 @@ fn link() {
     let package = env::var("CARGO_MANIFEST_DIR").unwrap();
     let archives = format!("{package}/../../target/staticlib");
     println!("cargo:rustc-link-search=native={archives}");
-    for name in ["reader", "writer"] {
+    for name in ["reader", "index", "writer"] {
         println!("cargo:rerun-if-changed={archives}/libdhcpopt_{name}.a");
     }
 }
@@ -52,7 +53,7 @@ fn variants() -> String {
         writeln!(list, "    ({:?}, yardstick!(variant_{i})),", variant.name).unwrap();
     }
     let count = VARIANTS.len();
-    writeln!(text, "pub const VARIANTS: [(&str, Yardstick); {count}] = [\n{list}];").unwrap();
+    writeln!(text, "pub static VARIANTS: [(&str, Yardstick); {count}] = [\n{list}];").unwrap();
     text
 }
 

@@ -1,5 +1,5 @@
 #!/usr/bin/env python3
-"""Read crates/vectors/stdin by document 01 and requests 01 to 03 anew, and hold every line of crates/vectors/stdout to it."""
+"""Read crates/vectors/stdin by document 01 and requests 01 to 03 and 07 anew, and hold every line of crates/vectors/stdout to it."""
 
 import struct
 import sys
@@ -7,7 +7,7 @@ from pathlib import Path
 
 HERE = Path(__file__).resolve().parent
 sys.path.append(str(HERE.parent))
-from reader import Refused, join, read, records, row_of
+from reader import FIELDS, Option, Piece, Refused, join, read, records, row_of
 
 OUT = HERE.parent.parent / "crates" / "vectors"
 
@@ -108,6 +108,83 @@ def steps(m, code):
     return "".join(f" {n}" for (n,) in struct.iter_unpack(">I", bytes_[:len(bytes_) // 4 * 4]))
 
 
+# --- The lines of an index (request 07) ---------------------------------------------------------------------------------
+
+def head(m, count):
+    """1, 2, 3, then 18 for an index not of 256 numbers."""
+    try:
+        read(m)
+    except Refused as fault:
+        if fault.args[0] <= 3:
+            raise
+    if count != 256:
+        raise Refused(18, count)
+
+
+def built(m, index):
+    """What building prints, and the numbers after it."""
+    try:
+        head(m, len(index))
+        options = join(read(m))
+    except Refused as fault:
+        return "index refused {} {}".format(*fault.args), index
+    return "index 512", [0 if c not in options else 65535 if options[c].pieces > 1 else options[c].first.at for c in range(256)]
+
+
+def sought(m, index, known, code):
+    if code in (0, 255):
+        return "refused 10 0"
+    try:
+        head(m, len(index))
+    except Refused as fault:
+        return "refused {} {}".format(*fault.args)
+    e = index[code]
+    if e == 0:
+        return "absent"
+    if e == 65535:
+        return answer(m, known, code)
+    for field, (first, end) in FIELDS.items():
+        end = end or len(m)
+        if first <= e and e + 2 <= end and m[e] == code and e + 2 + m[e + 1] <= end:
+            bytes_ = m[e + 2:e + 2 + m[e + 1]]
+            return look_up(known, code, Option(Piece(code, field, e - first, e, e + 2, bytes_), 1, bytes_))
+    return f"refused 19 {e}"
+
+
+def changed(bytes_):
+    """The message of these lines, with some bytes changed."""
+    m = bytearray(extra_message())
+    for place, byte in bytes_.items():
+        m[place] = byte
+    return bytes(m)
+
+
+def of_51(m, *entries):
+    return [f"through 51 {sought(m, [0] * 51 + [e] + [0] * 204, EVERY, 51)}" for e in entries]
+
+
+def entries(index):
+    return "entries " + " ".join(str(index[code]) for code in (12, 3, 53, 15, 120, 52, 51, 50, 0, 255))
+
+
+def index_lines(m):
+    line, own = built(m, [7] * 256)
+    lines = [line, entries(own)] + [f"through {code} {sought(m, own, EVERY, code)}" for code in (0, 255, 50, 12, 53, 6, 120, 52, 51)]
+    lines += [f"through 12 {sought(m, own, (), 12)}"]
+    other = changed({271: 12})
+    line, index = built(other, [7] * 256)
+    lines += [line, entries(index)] + [f"through {code} {sought(other, index, EVERY, code)}" for code in (12, 15)]
+    lines += [built(m, index)[0]] + [f"through {code} {sought(other, own, EVERY, code)}" for code in (12, 15)]
+    lines += of_51(changed({44: 51, 45: 4, 49: 7, 106: 51, 283: 51, 284: 4, 288: 9}), 0, 65535, 108, 44, 106, 283)
+    lines += of_51(changed(dict.fromkeys((43, 106, 107, 234, 235, 298, 299), 51)), 1, 43, 106, 107, 109, 234, 235, 236, 298, 299, 300, 65534)
+    few, many = [0] * 255, [0] * 257
+    lines += [built(m, few)[0], built(m, many)[0], f"through 12 {sought(m, few, EVERY, 12)}", f"through 12 {sought(m, many, EVERY, 12)}"]
+    lines += [f"through 0 {sought(m, few, EVERY, 0)}", built(bytes(240), few)[0], f"through 12 {sought(bytes(240), few, EVERY, 12)}"]
+    endless = changed({282: 0})
+    line, index = built(endless, [7] * 256)
+    return lines + [line, entries(index)] + of_51(endless, 108, 65535, 109)
+
+
 def extra():
     m, zeros = extra_message(), bytes(240)
     lines = ["extra"]
@@ -124,6 +201,7 @@ def extra():
     lines += [f"data 12 {data(zeros, 12)}", f"text 12 {text(zeros, EVERY, 12)}", "present 0 0 0 0 count 0 lowest 0"]
     lines += [f"records {printed(zeros).splitlines()[0]}"]
     lines += [f"steps {code}{steps(m, code)}" for code in (3, 4, 6, 50)]
+    lines += index_lines(m)
     return "".join(line + "\n" for line in lines)
 
 

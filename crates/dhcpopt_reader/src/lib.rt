@@ -74,19 +74,19 @@ pub struct PlainCodes {
     pub place: usize,
 }
 
-fn from_unsigned(n: u32) -> i64
+pub fn from_unsigned(n: u32) -> i64
     ensures { λ r. ⌜ r ≡ pos n ⌝ }
 {
     n as i64
 }
 
-fn from_signed(z: i32) -> i64
+pub fn from_signed(z: i32) -> i64
     ensures { λ r. ⌜ r ≡ z ⌝ }
 {
     z as i64
 }
 
-fn of_number(kind: u32, number: i64) -> PlainContent
+pub fn of_number(kind: u32, number: i64) -> PlainContent
     ensures { λ r. ⌜ r ≡ plainNumber kind number ⌝ }
 {
     PlainContent {
@@ -98,7 +98,7 @@ fn of_number(kind: u32, number: i64) -> PlainContent
     }
 }
 
-fn of_part(status: u32, kind: u32, length: usize) -> PlainContent
+pub fn of_part(status: u32, kind: u32, length: usize) -> PlainContent
     ensures { λ r. ⌜ r ≡ plainPart status kind length ⌝ }
 {
     PlainContent {
@@ -136,7 +136,7 @@ fn of_content(x: Content) -> PlainContent
     }
 }
 
-fn field_number(field: Field) -> u32
+pub fn field_number(field: Field) -> u32
     ensures { λ r. ⌜ r ≡ fieldNumber (fieldOf field) ⌝ }
 {
     match field {
@@ -208,7 +208,7 @@ fn of_answer(a: Answer) -> PlainAnswer
 }
 
 // An answer without an origin: absent, or refused.
-fn of_refusal(status: u32, number: u32, place: usize) -> PlainAnswer
+pub fn of_refusal(status: u32, number: u32, place: usize) -> PlainAnswer
     ensures { λ r. ⌜ r ≡ plainRefusal status number place ⌝ }
 {
     PlainAnswer {

@@ -1,5 +1,5 @@
 -- Laws that the proofs of the functions share.
-mod ByKind
+pub mod ByKind
 mod Entries
 pub mod Numbering
 mod Rules

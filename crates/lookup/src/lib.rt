@@ -86,7 +86,7 @@ fn value(k: u8, d: &[u8]) -> Content
 }
 
 // The row of a code, as a number; 0 where it has none, or is not known.
-fn known_row(known: [u64; 4], code: u8) -> u8
+pub fn known_row(known: [u64; 4], code: u8) -> u8
     ensures { λ r. ⌜ r ≡ knownRow (marked known) code ⌝ }
 {
     if codeset::contains(known, code) {

@@ -7,7 +7,10 @@ use native.Mathlib.Omega.{arith}
 use lib.ListN.{length, getD, take, drop, length-drop}
 use lib.Seq.{drop-cons, take-all}
 use lib.Dec.{eqb}
-use borrow.Author.Tests.{eq-eqb, ne-eqb}
+use borrow.Author.Tests.{eq-eqb, ne-eqb, eqb-true, eqb-false}
+use Rattle.options.specs.Message.{cookie}
+use Rattle.options.specs.Reading.{same}
+use Rattle.options.specs.Kinds.{word32}
 
 -- a part that reaches past the end, and one up to the end
 pub take-past : (m : List ℕ) (start len : ℕ) → length m - start ≤ len → take (length m - start) (drop start m) ≡ take len (drop start m)
@@ -31,3 +34,14 @@ four m h =
     let c : 238 < length m = omega arith in
     let d : 239 < length m = omega arith in
     rw (drop-cons m 236 0 a, drop-cons m 237 0 b, drop-cons m 238 0 c, drop-cons m 239 0 d)
+
+-- the cookie as one number, the low byte first
+pub cookie-word : (a b c d : ℕ) → a < 256 → b < 256 → c < 256 → d < 256 → eqb (word32 d c b a) 1666417251 ≡ same (a ∷ b ∷ c ∷ d ∷ []) cookie
+cookie-word a b c d ha hb hc hd = go (eqb a 99) (eqb b 130) (eqb c 83) (eqb d 99) refl refl refl refl
+  where
+    go : (p q r s : Bool) → eqb a 99 ≡ p → eqb b 130 ≡ q → eqb c 83 ≡ r → eqb d 99 ≡ s → eqb (word32 d c b a) 1666417251 ≡ cond p (cond q (cond r (cond s true false) false) false) false
+    go true true true true x y z w = eq-eqb (word32 d c b a) 1666417251 (omega (arith, eqb-true a 99 x, eqb-true b 130 y, eqb-true c 83 z, eqb-true d 99 w))
+    go true true true false x y z w = ne-eqb (word32 d c b a) 1666417251 (λ e. eqb-false d 99 w (omega arith))
+    go true true false s x y z w = ne-eqb (word32 d c b a) 1666417251 (λ e. eqb-false c 83 z (omega arith))
+    go true false r s x y z w = ne-eqb (word32 d c b a) 1666417251 (λ e. eqb-false b 130 y (omega arith))
+    go false q r s x y z w = ne-eqb (word32 d c b a) 1666417251 (λ e. eqb-false a 99 x (omega arith))

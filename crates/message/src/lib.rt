@@ -73,19 +73,8 @@ fn cookie_ok(m: &[u8]) -> bool
     requires { ⌜ 240 ≤ length (now m) ⌝ }
     ensures { λ r. ⌜ r ≡ same (take 4 (drop 236 (now (m .entry)))) cookie ⌝ }
 {
-    if m[236] != 99 {
-        return false;
-    }
-    if m[237] != 130 {
-        return false;
-    }
-    if m[238] != 83 {
-        return false;
-    }
-    if m[239] != 99 {
-        return false;
-    }
-    true
+    // One comparison, of the four bytes 99, 130, 83, 99 as a number, the low byte first: so the compiler takes them from memory as they are.
+    num::be32(m[239], m[238], m[237], m[236]) == 1666417251
 }
 
 // Whether file is active, by the value of option 52.
@@ -239,7 +228,7 @@ fn after_pads(f: &[u8], from: usize) -> usize
 
 // Whether a walk ends at an option with this code and data: 3 or 4, or 0 where it goes on; over: the value of the option 52 before. The order of the tests is
 // the one with the fewest instructions.
-fn over_stop(options: bool, over: u32, c: u8, d: &[u8]) -> u32
+pub fn over_stop(options: bool, over: u32, c: u8, d: &[u8]) -> u32
     ensures { λ r. ⌜ r ≡ overStop options over c (now (d .entry)) ⌝ }
 {
     if c != 52 {
@@ -281,7 +270,7 @@ fn byte32(x: u8) -> u32
 }
 
 // The value of option 52 after an option with this code and data; the first one stands.
-fn over_after(over: u32, c: u8, d: &[u8]) -> u32
+pub fn over_after(over: u32, c: u8, d: &[u8]) -> u32
     ensures { λ r. ⌜ r ≡ overAfter over c (now (d .entry)) ⌝ }
 {
     if c != 52 {
@@ -437,7 +426,7 @@ fn walk(
 }
 
 // The number of the refusal of a message's length or cookie, or 0.
-fn unfit(m: &[u8]) -> u32
+pub fn unfit(m: &[u8]) -> u32
     ensures { λ r. ⌜ r ≡ unfitOf (now (m .entry)) ⌝ }
 {
     if m.len() < 240 {
@@ -453,7 +442,7 @@ fn unfit(m: &[u8]) -> u32
 }
 
 // Its place: the message's length, or the cookie's.
-fn unfit_place(m: &[u8], number: u32) -> usize
+pub fn unfit_place(m: &[u8], number: u32) -> usize
     ensures { λ r. ⌜ r ≡ cond (eqb number 3) 236 (length (now (m .entry))) ⌝ }
 {
     if number == 3 {
@@ -561,7 +550,7 @@ fn refused(number: u32, place: usize) -> Scanned
 }
 
 // The number of the refusal that the end of a walk is.
-fn number_of(end: u32) -> u32
+pub fn number_of(end: u32) -> u32
     ensures { λ r. ⌜ r ≡ numberOf end ⌝ }
 {
     if end == 1 {

@@ -75,7 +75,7 @@ module _ (t : Table) (set : ℕ → Bool) (c : ℕ) (d : List ℕ) where
       go true e = is-known e
       go false e = is-unknown e
 
-  content-same : (x : Content) → ContentIs t set c d x → contentOf t set c d ≡ x
+  pub content-same : (x : Content) → ContentIs t set c d x → contentOf t set c d ≡ x
   content-same x (is-unknown e) = rw e
   content-same x (is-known e) = rw e
 

@@ -55,7 +55,7 @@ given {m} (row-5 fd a b) = (refl, place-in m fd (length (bytes fd m)) 5)
 given {m} (row-6 fd {i = i} a b c) = (refl, place-in m fd i 6)
 given {m} (row-7 fd {i = i} a b c) = (refl, place-in m fd i 7)
 
-first-one : {m : List ℕ} {n p k q : ℕ} → First m n p → First m k q → (n ≡ k) × (p ≡ q)
+pub first-one : {m : List ℕ} {n p k q : ℕ} → First m n p → First m k q → (n ≡ k) × (p ≡ q)
 first-one {m} {n} {p} {k} {q} a b = go (order (a .when) (b .when))
   where
     go : Before (a .when) (b .when) ⊎ ((a .when ≡ b .when) ⊎ Before (b .when) (a .when)) → (n ≡ k) × (p ≡ q)

@@ -2,6 +2,7 @@
 ghost use Prim.Native.Nat.{_+_, _≤_};
 ghost use lib.ListN.{length};
 use crate::ALL;
+use crate::indexes;
 use crate::print;
 
 // Lays src over m from at on.
@@ -16,7 +17,7 @@ fn lay(m: &mut [u8], at: usize, src: &[u8])
 }
 
 // Options 12, 3, 53, 6, 4, 15, 120 and 52, and 51 in file; 53, 6 and 4 are broken.
-fn message() -> [u8; 300] {
+pub fn message() -> [u8; 300] {
     let mut m = [0u8; 300];
     lay(&mut m, 108, b"\x33\x04\x00\x00\x0E\x10\xFF");
     lay(&mut m, 236, b"\x63\x82\x53\x63");
@@ -114,7 +115,7 @@ fn refused() {
     refusals(&m, &mut sheet);
 }
 
-// The calls on one message; then those on a refused one.
+// The calls on one message, with those on a refused one; then those of an index.
 fn calls(m: &[u8]) {
     lookups(m);
     data(m);
@@ -123,6 +124,7 @@ fn calls(m: &[u8]) {
     sheets(m);
     refused();
     reader_walks(m);
+    indexes::lines(m);
 }
 
 // The lines after the cases.

@@ -1,5 +1,6 @@
 // Reads messages from standard input, and prints what the calls answer for each (tests/vectors/README.md).
 mod extra;
+mod indexes;
 mod names;
 mod print;
 mod walk;

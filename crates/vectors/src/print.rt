@@ -130,6 +130,33 @@ pub fn present(p: PlainCodes) {
     word(b"\n");
 }
 
+// The line of a lookup through an index.
+pub fn through(m: &[u8], index: &[u16], known: [u64; 4], code: u8) {
+    one(b"through", code as u64);
+    answer(dhcpopt_index::dhcpopt_index_lookup(
+        m,
+        index,
+        known[0],
+        known[1],
+        known[2],
+        known[3],
+        code,
+    ));
+    word(b"\n");
+}
+
+// The line of building an index.
+pub fn build(m: &[u8], index: &mut [u16]) {
+    let f = dhcpopt_index::dhcpopt_index_build(m, index);
+    if f.refusal == 0 {
+        one(b"index", f.size as u64);
+        word(b"\n");
+        return;
+    }
+    two(b"index refused", f.refusal as usize, f.place);
+    word(b"\n");
+}
+
 // What was written to a lent buffer: how many bytes, and their sum.
 fn written(size: usize, sheet: &[u8]) {
     one(b"records", size as u64);

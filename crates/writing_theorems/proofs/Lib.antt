@@ -12,6 +12,7 @@ pub mod PieceSteps
 pub mod SheetRows
 -- The return of the sheet, and demand 3
 pub mod Demand
+pub mod IndexedDemand
 -- The plans, and what a field takes
 pub mod Plans
 -- What is permitted and what is tried

@@ -1,10 +1,10 @@
-//! Document 01's bench table, row by row, and requests 01 to 03 of document 02,
-//! against this implementation alone.
+//! Document 01's bench table, row by row, and requests 01 to 03 and 07 of document
+//! 02, against this implementation alone.
 //! "Bytes in hex from 240 on, the cookie right, fields as named, all other
 //! bytes zero; every code is marked known."
 
 use crate::rules::answers::{Codes, Content, Field, Kind, Lookup, Origin, Part, Refusal};
-use crate::rules::{reading, writing};
+use crate::rules::{index, reading, writing};
 
 const ALL: Codes = Codes([u64::MAX; 4]);
 
@@ -360,4 +360,107 @@ fn texts() {
     assert_eq!(lookup(&seam, 12), joined(broken(9, 243), 3, Field::Options, 3, 245));
     let m = message("3C 03 C8 00 61 FF");
     assert_eq!(lookup(&m, 60), found(Content::Part(Kind::Opaque, 3), Field::Options, 0, 242));
+}
+
+/// An index that has one entry.
+fn one_entry(code: u8, entry: u16) -> [u16; 256] {
+    let mut numbers = [0; 256];
+    numbers[usize::from(code)] = entry;
+    numbers
+}
+
+/// What is answered of 51 through an entry.
+fn lease(m: &[u8], entry: u16) -> Result<Lookup, Refusal> {
+    index::lookup(m, &one_entry(51, entry), ALL, 51)
+}
+
+/// Request 07: "entry c being the place of code c's byte, 0 if absent, 65,535 if
+/// it comes in pieces"; "A lookup through it answers as the plain lookup does
+/// whenever the index was built from the same bytes."
+#[test]
+fn index_of_the_same_bytes() {
+    let m = with_file("2B 01 07 35 01 05 2B 01 08 34 01 01 FF 35 01 02", "33 04 00 00 0E 10 FF");
+    let mut numbers = [7; 256];
+    assert_eq!(index::build(&m, &mut numbers), Ok(512));
+    let mut expected = [0; 256];
+    for (code, entry) in [(43, 65535), (53, 243), (52, 249), (51, 108)] {
+        expected[code] = entry;
+    }
+    assert_eq!(numbers, expected);
+    for code in 0..=255 {
+        for known in [ALL, Codes::default()] {
+            let plain = reading::lookup(&m, known, code);
+            assert_eq!(index::lookup(&m, &numbers, known, code), plain);
+        }
+    }
+}
+
+/// Request 07: "With some other index: 0 says absent, 65,535 uses the plain walk,
+/// any other entry is used only if it lies in one of the three fields, that byte
+/// is the code, and length and data lie in that field."
+#[test]
+fn other_index() {
+    let lease_of = |number| Content::Number(Kind::Unsigned32, number);
+    // 51 in options; in file, which is inactive, at the end with data and without.
+    let mut m = message("33 04 00 00 0E 10 FF 33 04 00 00 00 01");
+    m[230..236].copy_from_slice(&hex("33 04 00 00 00 02"));
+    m[106..108].copy_from_slice(&hex("33 00"));
+    assert_eq!(lease(&m, 0), Ok(Lookup::Absent));
+    assert_eq!(lease(&m, 65535), found(lease_of(3600), Field::Options, 0, 242));
+    assert_eq!(lease(&m, 240), found(lease_of(3600), Field::Options, 0, 242));
+    assert_eq!(lease(&m, 247), found(lease_of(1), Field::Options, 7, 249));
+    assert_eq!(lease(&m, 230), found(lease_of(2), Field::File, 122, 232));
+    assert_eq!(lease(&m, 106), found(broken(8, 106), Field::Sname, 62, 108));
+    // 51 everywhere: 53 bytes are needed from the entry on.
+    m.resize(300, 0);
+    m.fill(51);
+    m[236..240].copy_from_slice(&[99, 130, 83, 99]);
+    for entry in [1, 43, 56, 107, 184, 235, 236, 239, 248, 299, 300, 1472, 65534] {
+        assert_eq!(lease(&m, entry), Err(Refusal { number: 19, place: usize::from(entry) }));
+    }
+    for (entry, field, offset) in [
+        (44, Field::Sname, 0),
+        (55, Field::Sname, 11),
+        (108, Field::File, 0),
+        (183, Field::File, 75),
+        (247, Field::Options, 7),
+    ] {
+        let at = usize::from(entry);
+        assert_eq!(lease(&m, entry), found(broken(8, at), field, offset, at + 2));
+    }
+    // Another code; and 65,535, refused as the plain walk is.
+    assert_eq!(
+        index::lookup(&m, &one_entry(52, 44), ALL, 52),
+        Err(Refusal { number: 19, place: 44 })
+    );
+    assert_eq!(lease(&m, 65535), Err(Refusal { number: 4, place: 293 }));
+}
+
+/// Request 07: "18 for an index not of 256 numbers, with their count, after 10, 1,
+/// 2, 3; then, in a lookup, 19"; "Building gives 1, 2, 3, 18, then the reader's."
+#[test]
+fn index_refusals() {
+    let right = message("35 01 05 FF");
+    let endless = message("35 01 05");
+    let mut other = endless.clone();
+    other[239] = 0;
+    let refused = |number, place| Refusal { number, place };
+    for (m, count, refusal) in [
+        (&right[..239], 255, refused(1, 239)),
+        (&[0; 1473], 255, refused(2, 1473)),
+        (&other, 255, refused(3, 236)),
+        (&right, 0, refused(18, 0)),
+        (&right, 255, refused(18, 255)),
+        (&endless, 257, refused(18, 257)),
+    ] {
+        let mut numbers = vec![7; count];
+        assert_eq!(index::build(m, &mut numbers), Err(refusal));
+        assert_eq!(index::lookup(m, &numbers, ALL, 53), Err(refusal));
+        assert_eq!(index::lookup(m, &numbers, ALL, 255), Err(refused(10, 0)));
+        assert!(numbers.iter().all(|&number| number == 7));
+    }
+    let mut numbers = [7; 256];
+    assert_eq!(index::build(&endless, &mut numbers), Err(refused(5, 243)));
+    assert_eq!(numbers, [7; 256]);
+    assert_eq!(index::lookup(&endless, &numbers, ALL, 53), Err(refused(19, 7)));
 }

@@ -2,7 +2,7 @@
 //! signatures, so that single calls of it can be counted.
 
 use crate::rules::answers::{Codes, Content, Lookup, Origin, Part, Refusal, RollCall, Several};
-use crate::rules::{reading, vendor, writing};
+use crate::rules::{index, reading, vendor, writing};
 use std::slice;
 
 /// status: 0 absent, 1 unknown, 2 refused, 3 a number, 4 a part, 5 broken.
@@ -180,6 +180,39 @@ pub unsafe extern "C" fn independent_lookup(
     code: u8,
 ) -> Answer {
     reading::lookup(lent(m, n), Codes([k0, k1, k2, k3]), code).into()
+}
+
+/// # Safety
+/// `m` points to `n` readable bytes, `numbers` to `count` 16-bit numbers lent
+/// to this call alone.
+#[no_mangle]
+pub unsafe extern "C" fn independent_index_build(
+    m: *const u8,
+    n: usize,
+    numbers: *mut u16,
+    count: usize,
+) -> Filled {
+    let numbers = if count == 0 { &mut [] } else { slice::from_raw_parts_mut(numbers, count) };
+    index::build(lent(m, n), numbers).into()
+}
+
+/// # Safety
+/// `m` points to `n` readable bytes, `numbers` to `count` readable 16-bit
+/// numbers.
+#[no_mangle]
+pub unsafe extern "C" fn independent_index_lookup(
+    m: *const u8,
+    n: usize,
+    numbers: *const u16,
+    count: usize,
+    k0: u64,
+    k1: u64,
+    k2: u64,
+    k3: u64,
+    code: u8,
+) -> Answer {
+    let numbers = if count == 0 { &[] } else { slice::from_raw_parts(numbers, count) };
+    index::lookup(lent(m, n), numbers, Codes([k0, k1, k2, k3]), code).into()
 }
 
 /// # Safety

@@ -1,9 +1,10 @@
 //! The rules of document 01: what is answered, the kinds, reading, writing;
-//! and of request 05: vendor information.
+//! of request 05: vendor information; of request 07: an index.
 
 #![forbid(unsafe_code)]
 
 pub mod answers;
+pub mod index;
 pub mod kinds;
 pub mod reading;
 pub mod vendor;

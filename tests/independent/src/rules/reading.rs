@@ -56,7 +56,7 @@ fn first(field: Field) -> usize {
 }
 
 /// Refusals 1, 2, 3.
-fn check_frame(message: &[u8]) -> Result<(), Refusal> {
+pub fn check_frame(message: &[u8]) -> Result<(), Refusal> {
     let length = message.len();
     if length < OPTIONS {
         return refuse(1, length);
@@ -207,7 +207,7 @@ fn joined_content(message: &[u8], known: Codes, first: Met, whole: usize) -> Con
 }
 
 /// What is said of the data of a code whose first piece is given.
-fn content(known: Codes, first: Met, data: &[u8]) -> Content {
+pub fn content(known: Codes, first: Met, data: &[u8]) -> Content {
     // "A code is known when its bit is set and it has a row."
     let kind = match kinds::kind_of(first.code) {
         Some(kind) if known.has(first.code) => kind,

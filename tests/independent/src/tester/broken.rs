@@ -24,7 +24,7 @@ pub fn run() -> i32 {
     }
     let subjects = subjects();
     panic::set_hook(Box::new(|_| ()));
-    for (name, rules) in VARIANTS {
+    for &(name, rules) in &VARIANTS {
         failed += usize::from(!told("variant", name, library(), rules));
     }
     for &(name, subject) in &subjects {
@@ -109,6 +109,17 @@ fn subjects() -> Vec<(&'static str, Subject)> {
         ("vendor records past the lent ones", Subject { vendor_records: vendor_past, ..own }),
         ("a refused vendor write touches a byte", Subject { vendor_write: vendor_touches, ..own }),
         ("a refused vendor write with a size", Subject { vendor_write: vendor_sized, ..own }),
+        ("index build writes the number before", Subject { index_build: build_before, ..own }),
+        ("index build writes the number past", Subject { index_build: build_past, ..own }),
+        ("a refused index build touches a number", Subject { index_build: build_touches, ..own }),
+        ("a refused index build with a size", Subject { index_build: build_sized, ..own }),
+        ("an index with a place", Subject { index_build: build_placed, ..own }),
+        ("index build changes the message", Subject { index_build: build_changes, ..own }),
+        ("index lookup changes a number", Subject { index_lookup: through_changes, ..own }),
+        ("index lookup changes the message", Subject { index_lookup: through_message, ..own }),
+        ("absent by an index with a start", Subject { index_lookup: through_absent, ..own }),
+        ("19 with a field", Subject { index_lookup: through_refused, ..own }),
+        ("a number by an index without its field", Subject { index_lookup: through_number, ..own }),
     ]
 }
 
@@ -350,3 +361,74 @@ unsafe extern "C" fn vendor_sized(s: *const u8, n: usize, out: *mut u8, room: us
     let filled = boundary::independent_vendor_write(s, n, out, room);
     Filled { size: if filled.refusal == 11 { room + 1 } else { filled.size }, ..filled }
 }
+
+/// A build before or after which something is done that it may not do.
+macro_rules! wrong_build {
+    ($name:ident, |$m:ident, $index:ident, $count:ident, $filled:ident| $done:expr) => {
+        unsafe extern "C" fn $name(
+            $m: *const u8,
+            n: usize,
+            $index: *mut u16,
+            $count: usize,
+        ) -> Filled {
+            #[allow(unused_mut)]
+            let mut $filled = boundary::independent_index_build($m, n, $index, $count);
+            $done;
+            $filled
+        }
+    };
+}
+
+wrong_build!(build_before, |_m, index, _count, filled| *index.sub(1) ^= 1);
+wrong_build!(build_past, |_m, index, count, filled| *index.add(count) ^= 1);
+wrong_build!(build_touches, |_m, index, count, filled| if filled.refusal == 5 && count > 0 {
+    *index ^= 1;
+});
+wrong_build!(build_sized, |_m, _index, count, filled| if filled.refusal == 18 {
+    filled.size = count;
+});
+wrong_build!(build_placed, |_m, _index, count, filled| if filled.refusal == 0 {
+    filled.place = count;
+});
+wrong_build!(build_changes, |m, _index, _count, filled| if filled.refusal == 0 {
+    *m.cast_mut().add(240) ^= 1;
+});
+
+/// A lookup through an index, with something that it may not do or answer.
+macro_rules! wrong_through {
+    ($name:ident, |$m:ident, $index:ident, $answer:ident| $done:expr) => {
+        unsafe extern "C" fn $name(
+            $m: *const u8,
+            n: usize,
+            $index: *const u16,
+            count: usize,
+            k0: u64,
+            k1: u64,
+            k2: u64,
+            k3: u64,
+            code: u8,
+        ) -> Answer {
+            #[allow(unused_mut)]
+            let mut $answer =
+                boundary::independent_index_lookup($m, n, $index, count, k0, k1, k2, k3, code);
+            $done;
+            $answer
+        }
+    };
+}
+
+wrong_through!(through_changes, |_m, index, answer| if answer.refusal == 19 {
+    *index.cast_mut() ^= 1;
+});
+wrong_through!(through_message, |m, _index, answer| if answer.field == 1 {
+    *m.cast_mut() ^= 1;
+});
+wrong_through!(through_absent, |_m, _index, answer| if answer.status == 0 {
+    answer.start = 2;
+});
+wrong_through!(through_refused, |_m, _index, answer| if answer.refusal == 19 {
+    answer.field = 1;
+});
+wrong_through!(through_number, |_m, _index, answer| if answer.status == 3 {
+    answer.field = 0;
+});

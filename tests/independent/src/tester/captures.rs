@@ -22,6 +22,7 @@ pub fn run(run: &mut Run, folder: &Path) -> io::Result<()> {
             mutate(&mut rng, &mut edited);
             run.name(format!("{}, edited copy {copy}", file.display()));
             run.message(&mut rng, &edited, copy % 10 == 0);
+            run.index(&mut rng, &edited);
             if run.over() {
                 return Ok(());
             }

@@ -2,11 +2,13 @@
 //! lent buffer, the bytes around it, and that inputs stay as they were.
 
 use super::counts::Counts;
+use super::index::{self, Numbers};
 use super::lent::Lent;
 use super::rng::Rng;
 use super::sheets::Needs;
 use super::sides::{Subject, Yardstick};
 use super::{messages, sheets, vendor};
+use independent::boundary::Answer;
 use independent::rules::answers::Codes;
 use std::fmt::Debug;
 
@@ -74,7 +76,7 @@ impl Run {
         }
         let mut rng = Rng::of_case(seed, index);
         let mut bytes = std::mem::take(&mut self.bytes);
-        match rng.below(44) {
+        match rng.below(47) {
             0 => self.list_case(&mut rng, &mut bytes),
             40 | 41 => {
                 vendor::bytes(&mut rng, &mut bytes);
@@ -83,6 +85,10 @@ impl Run {
             42 | 43 => {
                 vendor::sheet(&mut rng, &mut bytes);
                 self.vendor_sheet(&mut rng, &bytes);
+            }
+            44..=46 => {
+                messages::message(&mut rng, &mut bytes);
+                self.index(&mut rng, &bytes);
             }
             1..=20 => {
                 messages::message(&mut rng, &mut bytes);
@@ -177,12 +183,15 @@ impl Run {
         self.input_unchanged();
     }
 
-    /// Reads one message, all 256 codes with several known sets.
+    /// Reads one message, all 256 codes with several known sets, also through its
+    /// index.
     pub fn message_whole(&mut self, rng: &mut Rng, bytes: &[u8]) {
         self.counts.messages += 1;
         self.hold_input(rng, bytes);
         self.present();
         self.rooms(rng);
+        let mut index = Numbers::any(rng, 256);
+        let built = self.index_build(&mut index);
         for code in 0..=255 {
             let mut single = Codes::default();
             single.add(code);
@@ -190,6 +199,9 @@ impl Run {
             let random = Codes([rng.next(), rng.next(), rng.next(), rng.next()]);
             for known in [Codes([u64::MAX; 4]), Codes::default(), single, but_one, random] {
                 self.ask(known, code);
+                if built {
+                    self.fresh(&mut index, known, code);
+                }
             }
             self.copies(rng, code);
         }
@@ -508,6 +520,129 @@ impl Run {
         }
     }
 
+    /// Builds the index of a message, and looks up codes through it, in this
+    /// message and in another; then through an index with any entries.
+    pub fn index(&mut self, rng: &mut Rng, bytes: &[u8]) {
+        self.counts.indexes += 1;
+        self.hold_input(rng, bytes);
+        let count = index::count(rng);
+        let mut index = Numbers::any(rng, count);
+        let built = self.index_build(&mut index);
+        for code in index::codes(rng, index.middle()) {
+            let known = known_set(rng, code);
+            if built {
+                self.fresh(&mut index, known, code);
+            } else {
+                self.through(&mut index, known, code);
+            }
+        }
+        self.input_unchanged();
+        if built {
+            self.stale(rng, bytes, &mut index);
+        }
+        self.hold_input(rng, bytes);
+        self.entries(rng, &mut index);
+        self.input_unchanged();
+    }
+
+    /// "With some other index": that of other bytes, a few changed or all.
+    fn stale(&mut self, rng: &mut Rng, bytes: &[u8], index: &mut Numbers) {
+        let mut other = bytes.to_vec();
+        if rng.percent(70) {
+            messages::mutate(rng, &mut other);
+        } else {
+            messages::message(rng, &mut other);
+        }
+        self.hold_input(rng, &other);
+        for code in index::codes(rng, index.middle()) {
+            let known = known_set(rng, code);
+            let answer = self.through(index, known, code);
+            let plain = (self.yardstick.lookup)(self.input.middle(), known, code);
+            self.counts.stale[usize::from(answer != plain)] += 1;
+        }
+        self.input_unchanged();
+    }
+
+    /// Any numbers for entries.
+    fn entries(&mut self, rng: &mut Rng, index: &mut Numbers) {
+        for _ in 0..6 {
+            let entry = index::entry(rng, self.input.middle());
+            let code = index::code(rng, self.input.middle(), entry);
+            index.set(code, entry);
+            let known = known_set(rng, code);
+            self.through(index, known, code);
+        }
+    }
+
+    /// One message, looked up through an index that has one entry.
+    pub fn one_entry(&mut self, rng: &mut Rng, bytes: &[u8], code: u8, entry: u16) {
+        self.counts.indexes += 1;
+        self.hold_input(rng, bytes);
+        let mut index = Numbers::any(rng, 256);
+        index.set(code, entry);
+        self.through(&mut index, Codes([u64::MAX; 4]), code);
+        self.input_unchanged();
+    }
+
+    /// One message, and so many numbers for an index.
+    pub fn one_count(&mut self, rng: &mut Rng, bytes: &[u8], code: u8, count: usize) {
+        self.counts.indexes += 1;
+        self.hold_input(rng, bytes);
+        self.one_index(rng, code, count);
+        self.input_unchanged();
+    }
+
+    fn one_index(&mut self, rng: &mut Rng, code: u8, count: usize) {
+        let mut index = Numbers::any(rng, count);
+        if self.index_build(&mut index) {
+            self.fresh(&mut index, Codes([u64::MAX; 4]), code);
+        } else {
+            self.through(&mut index, Codes([u64::MAX; 4]), code);
+        }
+    }
+
+    fn index_build(&mut self, theirs: &mut Numbers) -> bool {
+        let mut ours = theirs.clone();
+        let (m, n, count) = (self.input.pointer(), self.input.len(), theirs.len());
+        let filled = unsafe { (self.subject.index_build)(m, n, theirs.pointer(), count) };
+        let expected = (self.yardstick.index_build)(self.input.middle(), ours.middle_mut());
+        self.counts.index_build(&filled);
+        self.equal(|| format!("index of {count} numbers"), &filled, &expected);
+        self.equal(|| format!("index of {count} numbers, lent numbers"), theirs, &ours);
+        filled.refusal == 0
+    }
+
+    fn through(&mut self, index: &mut Numbers, known: Codes, code: u8) -> Answer {
+        let before = index.clone();
+        let (m, n, count) = (self.input.pointer(), self.input.len(), index.len());
+        let [k0, k1, k2, k3] = known.0;
+        let first = index.pointer();
+        let answer =
+            unsafe { (self.subject.index_lookup)(m, n, first, count, k0, k1, k2, k3, code) };
+        let ours = (self.yardstick.index_lookup)(self.input.middle(), before.middle(), known, code);
+        self.counts.index_lookup(self.input.middle(), code, &answer);
+        let plain = (self.yardstick.lookup)(self.input.middle(), known, code);
+        self.counts.other += u64::from(answer.field != 0 && answer != plain);
+        let name = || {
+            let entry = before.middle().get(usize::from(code));
+            format!("lookup of code {code} at entry {entry:?} of {count} numbers, {:x?}", known.0)
+        };
+        self.equal(name, &answer, &ours);
+        self.equal(|| format!("{}, the numbers", name()), index, &before);
+        answer
+    }
+
+    /// "answers as the plain lookup does whenever the index was built from the
+    /// same bytes"
+    fn fresh(&mut self, index: &mut Numbers, known: Codes, code: u8) {
+        let answer = self.through(index, known, code);
+        let (m, n) = (self.input.pointer(), self.input.len());
+        let [k0, k1, k2, k3] = known.0;
+        let plain = unsafe { (self.subject.lookup)(m, n, k0, k1, k2, k3, code) };
+        self.counts.fresh += 1;
+        self.equal(|| format!("code {code} through its own index"), &answer, &plain);
+    }
+
     /// One message with the answer of one code.
     pub fn one_code(&mut self, rng: &mut Rng, bytes: &[u8], code: u8) {
         self.counts.messages += 1;
@@ -517,6 +652,7 @@ impl Run {
         self.records(rng, None, room);
         self.ask(Codes([u64::MAX; 4]), code);
         self.copies(rng, code);
+        self.one_index(rng, code, 256);
         self.input_unchanged();
     }
 

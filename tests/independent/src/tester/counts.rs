@@ -1,5 +1,6 @@
 //! What was exercised, and whether it was often enough.
 
+use super::index::{fault, UNUSABLE};
 use super::messages::goes_across;
 use independent::boundary::{Address, Answer, Extent, Filled, Present, Wrote};
 use independent::rules::answers::{Codes, Kind};
@@ -17,7 +18,7 @@ const STATUS_FOUND: [(usize, &str); 4] =
     [(1, "unknown"), (3, "number"), (4, "part"), (5, "broken")];
 
 /// Refusals by number; at 0 the calls that were not refused.
-type Refusals = [u64; 18];
+type Refusals = [u64; 20];
 
 pub struct Counts {
     pub messages: u64,
@@ -41,6 +42,23 @@ pub struct Counts {
     vendor_full: [u64; 2],
     /// Written items read back as their sheet.
     pub vendor_back: u64,
+    index_build: Refusals,
+    index_lookup: Refusals,
+    /// Lookups through an index by status and field, and by kind and field;
+    /// those of several pieces.
+    index_status: [[u64; 4]; 6],
+    index_kind: [[u64; 3]; 12],
+    index_several: u64,
+    /// Entries that were not used, by what makes them unusable.
+    unusable: [u64; 12],
+    /// Lookups through an index of the same bytes; through one of other bytes
+    /// that answer as the plain lookup, and otherwise; and used entries that
+    /// answer otherwise.
+    pub fresh: u64,
+    pub stale: [u64; 2],
+    pub other: u64,
+    /// Messages with an index.
+    pub indexes: u64,
     /// Option 43s and sheets of items.
     pub vendors: u64,
     /// Lookups by status and field: none, options, file, sname.
@@ -97,16 +115,26 @@ impl Counts {
             calls: 0,
             read_back: 0,
             split: [0; 2],
-            lookup: [0; 18],
-            present: [0; 18],
-            copy: [0; 18],
-            records: [0; 18],
-            write: [0; 18],
-            vendor_records: [0; 18],
-            vendor_write: [0; 18],
+            lookup: [0; 20],
+            present: [0; 20],
+            copy: [0; 20],
+            records: [0; 20],
+            write: [0; 20],
+            vendor_records: [0; 20],
+            vendor_write: [0; 20],
             vendor_lent: [[0; 4]; 2],
             vendor_full: [0; 2],
             vendor_back: 0,
+            index_build: [0; 20],
+            index_lookup: [0; 20],
+            index_status: [[0; 4]; 6],
+            index_kind: [[0; 3]; 12],
+            index_several: 0,
+            unusable: [0; 12],
+            fresh: 0,
+            stale: [0; 2],
+            other: 0,
+            indexes: 0,
             vendors: 0,
             status: [[0; 4]; 6],
             kind: [[0; 3]; 12],
@@ -301,15 +329,34 @@ impl Counts {
         }
     }
 
-    /// Messages, sheets, lists and vendor information together.
+    pub fn index_build(&mut self, filled: &Filled) {
+        self.calls += 1;
+        add(&mut self.index_build, filled.refusal as usize);
+    }
+
+    pub fn index_lookup(&mut self, message: &[u8], code: u8, answer: &Answer) {
+        self.calls += 1;
+        let status = answer.status as usize;
+        add(&mut self.index_lookup, if status == 2 { answer.refusal as usize } else { 0 });
+        add_at(&mut self.index_status, status, answer.field as usize);
+        if let (3 | 4, 1..=3) = (status, answer.field) {
+            add_at(&mut self.index_kind, answer.kind as usize, answer.field as usize - 1);
+        }
+        self.index_several += u64::from(answer.several != 0);
+        if (answer.status, answer.refusal) == (2, 19) {
+            self.unusable[fault(message, code, answer.place)] += 1;
+        }
+    }
+
+    /// Messages, sheets, lists, vendor information and indexes together.
     pub fn compared(&self) -> u64 {
-        self.messages + self.sheets + self.lists + self.vendors
+        self.messages + self.sheets + self.lists + self.vendors + self.indexes
     }
 
     pub fn print(&self) {
         println!(
-            "messages {}, sheets {}, address lists {}, vendor information {}, calls {}",
-            self.messages, self.sheets, self.lists, self.vendors, self.calls
+            "messages {}, sheets {}, address lists {}, vendor information {}, indexes {}, calls {}",
+            self.messages, self.sheets, self.lists, self.vendors, self.indexes, self.calls
         );
         println!("written messages read back as their sheet: {}", self.read_back);
         let [pieces, across] = self.split;
@@ -324,6 +371,25 @@ impl Counts {
         println!("vendor, lent exactly, one short, longer, none: {:?}", self.vendor_lent);
         println!("vendor, 255 bytes given, 256 refused: {:?}", self.vendor_full);
         println!("vendor, written and read back: {}", self.vendor_back);
+        print_refusals("index_build", &self.index_build);
+        print_refusals("index_lookup", &self.index_lookup);
+        let [same, otherwise] = self.stale;
+        println!("index of the same bytes: {}", self.fresh);
+        println!("index of other bytes: as the plain lookup {same}, otherwise {otherwise}");
+        println!("used entries that answer otherwise: {}", self.other);
+        println!("through an index, by status in no field, options, file, sname:");
+        for (status, what) in
+            ["absent", "unknown", "refused", "number", "part", "broken"].iter().enumerate()
+        {
+            println!("  {what}: {:?}", self.index_status[status]);
+        }
+        for (i, fields) in self.index_kind.iter().enumerate().skip(1) {
+            println!("  kind {i}: {fields:?}");
+        }
+        println!("  of several pieces: {}", self.index_several);
+        for (what, count) in UNUSABLE.iter().zip(self.unusable) {
+            println!("  unusable, {what}: {count}");
+        }
         let [absent, unknown, refused, number, part, broken] = self.status;
         println!("lookup: absent {}, refused {}", absent[0], refused[0]);
         println!("lookup in options, file, sname:");
@@ -399,7 +465,21 @@ impl Counts {
         missing.all("vendor_write lent", &self.vendor_lent[1]);
         missing.all("vendor_write of 255 bytes, of 256", &self.vendor_full);
         missing.one("vendor, written and read back", self.vendor_back);
-        missing.origins(&self.status);
+        missing.refusals("index_build", &self.index_build, &[0, 1, 2, 3, 4, 5, 6, 7, 18]);
+        let possible = [0, 1, 2, 3, 4, 5, 6, 7, 10, 18, 19];
+        missing.refusals("index_lookup", &self.index_lookup, &possible);
+        missing.one("index of the same bytes", self.fresh);
+        missing.all("index of other bytes", &self.stale);
+        missing.one("used entries that answer otherwise", self.other);
+        missing.origins("index_lookup", &self.index_status);
+        for (i, fields) in self.index_kind.iter().enumerate().skip(1) {
+            missing.all(&format!("index_lookup kind {i} by field"), fields);
+        }
+        missing.one("index_lookup of several pieces", self.index_several);
+        for (what, count) in UNUSABLE.iter().zip(self.unusable) {
+            missing.one(&format!("unusable entry, {what}"), count);
+        }
+        missing.origins("lookup", &self.status);
         for (i, fields) in self.kind.iter().enumerate().skip(1) {
             missing.all(&format!("lookup kind {i} by field"), fields);
         }
@@ -542,13 +622,13 @@ impl Missing {
     }
 
     /// An absent code and a refusal come from no field, every other answer from one.
-    fn origins(&mut self, status: &[[u64; 4]; 6]) {
+    fn origins(&mut self, call: &str, status: &[[u64; 4]; 6]) {
         for (i, fields) in status.iter().enumerate() {
             let (possible, other) =
                 if let 0 | 2 = i { fields.split_at(1) } else { (&fields[1..], &fields[..1]) };
-            self.all(&format!("lookup status {i} by field"), possible);
+            self.all(&format!("{call} status {i} by field"), possible);
             if other.iter().any(|&count| count > 0) {
-                self.0.push(format!("lookup status {i} came from an impossible field"));
+                self.0.push(format!("{call} status {i} came from an impossible field"));
             }
         }
     }

@@ -1,4 +1,4 @@
-//! The library under test: two static archives.
+//! The library under test: three static archives.
 
 use super::sides::Subject;
 use independent::boundary::{Address, Answer, Extent, Filled, Present, Wrote};
@@ -30,6 +30,22 @@ extern "C" {
     fn dhcpopt_vendor_write(sheet: *const u8, n: usize, out: *mut u8, room: usize) -> Filled;
 }
 
+#[link(name = "dhcpopt_index", kind = "static")]
+extern "C" {
+    fn dhcpopt_index_build(m: *const u8, n: usize, index: *mut u16, count: usize) -> Filled;
+    fn dhcpopt_index_lookup(
+        m: *const u8,
+        n: usize,
+        index: *const u16,
+        count: usize,
+        k0: u64,
+        k1: u64,
+        k2: u64,
+        k3: u64,
+        code: u8,
+    ) -> Answer;
+}
+
 pub fn library() -> Subject {
     Subject {
         lookup: dhcpopt_lookup,
@@ -42,5 +58,7 @@ pub fn library() -> Subject {
         write: dhcpopt_write,
         vendor_records: dhcpopt_vendor_records,
         vendor_write: dhcpopt_vendor_write,
+        index_build: dhcpopt_index_build,
+        index_lookup: dhcpopt_index_lookup,
     }
 }

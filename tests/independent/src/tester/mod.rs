@@ -5,6 +5,7 @@ pub mod captures;
 pub mod compare;
 mod counts;
 pub mod edges;
+mod index;
 mod lent;
 pub mod library;
 mod messages;

@@ -7,6 +7,9 @@ use independent::rules::answers::Codes;
 type Asked = unsafe extern "C" fn(*const u8, usize, u64, u64, u64, u64, u8) -> Answer;
 type AskedText = unsafe extern "C" fn(*const u8, usize, u64, u64, u64, u64, u8) -> Extent;
 
+type AskedThrough =
+    unsafe extern "C" fn(*const u8, usize, *const u16, usize, u64, u64, u64, u64, u8) -> Answer;
+
 /// C functions that are to keep document 01.
 #[derive(Clone, Copy)]
 pub struct Subject {
@@ -20,6 +23,8 @@ pub struct Subject {
     pub write: unsafe extern "C" fn(*const u8, usize, *mut u8, usize, u8) -> Wrote,
     pub vendor_records: unsafe extern "C" fn(*const u8, usize, *mut u8, usize) -> Filled,
     pub vendor_write: unsafe extern "C" fn(*const u8, usize, *mut u8, usize) -> Filled,
+    pub index_build: unsafe extern "C" fn(*const u8, usize, *mut u16, usize) -> Filled,
+    pub index_lookup: AskedThrough,
 }
 
 /// What they are held to.
@@ -35,6 +40,8 @@ pub struct Yardstick {
     pub write: fn(&[u8], &mut [u8], u8) -> Wrote,
     pub vendor_records: fn(&[u8], &mut [u8]) -> Filled,
     pub vendor_write: fn(&[u8], &mut [u8]) -> Filled,
+    pub index_build: fn(&[u8], &mut [u16]) -> Filled,
+    pub index_lookup: fn(&[u8], &[u16], Codes, u8) -> Answer,
 }
 
 /// The yardstick made of a module of rules.
@@ -56,6 +63,10 @@ macro_rules! yardstick {
             },
             vendor_records: |bytes, sheet| $($rules)::+::vendor::records(bytes, sheet).into(),
             vendor_write: |sheet, out| $($rules)::+::vendor::write(sheet, out).into(),
+            index_build: |m, index| $($rules)::+::index::build(m, index).into(),
+            index_lookup: |m, index, known, code| {
+                $($rules)::+::index::lookup(m, index, known, code).into()
+            },
         }
     };
 }
@@ -80,5 +91,7 @@ pub fn own_exports() -> Subject {
         write: independent_write,
         vendor_records: independent_vendor_records,
         vendor_write: independent_vendor_write,
+        index_build: independent_index_build,
+        index_lookup: independent_index_lookup,
     }
 }

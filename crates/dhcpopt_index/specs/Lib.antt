@@ -1,0 +1,3 @@
+pub mod Built
+-- Internals
+pub mod Found

@@ -1,0 +1,2 @@
+-- Internals
+pub mod Filling

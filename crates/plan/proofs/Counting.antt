@@ -1,6 +1,6 @@
 -- Pieces counted, one after the other, while a field takes them. Assumes nothing.
-use mathlib.Core.Path.{_≡_, refl, sym, ap, _∙_, subst}
-use mathlib.Core.List.{List, [], _∷_}
+use mathlib.Core.Path.{_≡_, refl, sym, ap, ap₂, _∙_, subst}
+use mathlib.Core.List.{List, _∷_}
 use mathlib.Core.Bool.{Bool, true, false, cond}
 use Prim.Native.Nat.{ℕ, _+_, _-_, _*_, _<_, _≤_}
 use native.Mathlib.Omega.{arith}
@@ -9,11 +9,10 @@ use lib.Dec.{ltb}
 use borrow.Author.Tests.{lt-ltb, le-ltb, ltb-true, ltb-false}
 use Rattle.options.specs.Message.{Rec}
 use Rattle.options.specs.SheetWalk.{recordsLeft, Whole}
-use Rattle.options.specs.Writing.{size, optionBytes, fits, piecesLeft, Inside, Between, pieceSize}
-use Rattle.theorems.proofs.View.{clash}
+use Rattle.options.specs.Writing.{size, optionBytes, fits, piecesLeft, Between, pieceSize}
 use Rattle.writing_theorems.proofs.SheetSteps.{sizeAt, recordHere, Next, next-left, none-left}
 use Rattle.writing_theorems.proofs.PieceSteps.{no-pieces-left, done-within, Piece, last-of-record, piece-here}
-use Rattle.sheet.specs.Judge.{allSingle, singleTo}
+use Rattle.sheet.specs.Judge.{singleTo}
 use Rattle.plan.specs.Steps.{sizes, leftOver, From, Single}
 use Rattle.plan.specs.Pieces.{sizeOf, pieceOf}
 use Rattle.plan.specs.declared.Piece as code
@@ -52,31 +51,40 @@ pub record Turn (s : List ℕ) (single at done k : ℕ) : Type 0 where
   pub none-done : done ≡ 0
   pub singles : Single s single (at + (k + 2 + 1)) done
 
-one-piece : (n : ℕ) (b : Bool) → cond (ltb 255 n) false b ≡ true → (n ≤ 255) × (b ≡ true)
-one-piece n b e = go (ltb 255 n) refl e
+-- a place before `single` is in the sheet, and its record is one piece
+in-sheet : (s : List ℕ) (single at : ℕ) → single ≡ singleTo at (recordsLeft s at) → at < single → at < length s
+in-sheet s single at e l = go (ltb at (length s)) refl
   where
-    go : (u : Bool) → ltb 255 n ≡ u → cond u false b ≡ true → (n ≤ 255) × (b ≡ true)
-    go true q z = clash (cc)
+    go : (b : Bool) → ltb at (length s) ≡ b → at < length s
+    go true q = ltb-true at (length s) q
+    go false q = let z : single ≡ at = e ∙ ap (singleTo at) (none-left s at (ltb-false at (length s) q)) in absurd (omega (arith, z, l))
+
+one-piece : (n single at next : ℕ) → single ≡ cond (ltb 255 n) at next → at < single → (n ≤ 255) × (single ≡ next)
+one-piece n single at next e l = go (ltb 255 n) refl e
+  where
+    go : (b : Bool) → ltb 255 n ≡ b → single ≡ cond b at next → (n ≤ 255) × (single ≡ next)
+    go true q z = absurd (omega (arith, z, l))
     go false q z = (ltb-false 255 n q, z)
 
 pub turn : (s : List ℕ) (single at done : ℕ) → Between s at done → Single s single at done → at < single → (k : ℕ) → k ≡ getD s (at + 2) 0 → Turn s single at done k
 turn s single at done b q l k e =
-    let p = q (omega arith) in
-    let h : at < length s = omega (arith, p .0) in
+    let p = q l in
+    let h : at < length s = in-sheet s single at (p .1) l in
     let x : Next s at = next-left s at (b .whole) h in
-    let o = one-piece (length (recordHere s at .body)) (allSingle (recordsLeft s (at + 3 + sizeAt s at))) (sym (ap allSingle (x .first)) ∙ p .2) in
+    let o = one-piece (length (recordHere s at .body)) single at _ (p .1 ∙ ap (singleTo at) (x .first)) l in
     let n : sizeAt s at ≡ k = omega (arith, e, x .body-long, o .0) in
-    let d : 0 ≡ done = sym (p .1) in
+    let d : 0 ≡ done = sym (p .0) in
     let j : at + 3 + sizeAt s at ≡ at + (k + 2 + 1) = omega (arith, n) in
+    let u : at + (3 + length (recordHere s at .body)) ≡ at + (k + 2 + 1) = omega (arith, n, x .body-long) in
     let i : sizeAt s at - done ≡ k = omega (arith, n, d) in
     let last : Piece s at done (sizeAt s at - done) (at + 3 + sizeAt s at) 0 = last-of-record s at done b h (omega (arith, o .0, x .body-long)) in
-    let sized : Piece s at done k (at + 3 + sizeAt s at) 0 = subst (λ (u : ℕ). Piece s at done u (at + 3 + sizeAt s at) 0) i last in
-    let placed : Piece s at done k (at + (k + 2 + 1)) 0 = subst (λ (u : ℕ). Piece s at done k u 0) j sized in
+    let sized : Piece s at done k (at + 3 + sizeAt s at) 0 = subst (λ (z : ℕ). Piece s at done z (at + 3 + sizeAt s at) 0) i last in
+    let placed : Piece s at done k (at + (k + 2 + 1)) 0 = subst (λ (z : ℕ). Piece s at done k z 0) j sized in
     record {
-      piece = subst (λ (u : ℕ). Piece s at done k (at + (k + 2 + 1)) u) d placed;
+      piece = subst (λ (z : ℕ). Piece s at done k (at + (k + 2 + 1)) z) d placed;
       within = omega (arith, x .within, n);
-      none-done = p .1;
-      singles = λ z. (p .0, p .1, subst (λ (u : ℕ). allSingle (recordsLeft s u) ≡ true) j (o .1));
+      none-done = p .0;
+      singles = λ z. (p .0, o .1 ∙ ap₂ (λ (a c : ℕ). singleTo a (recordsLeft s c)) u j);
     }
 
 -- ---- One piece more, and none more
@@ -97,16 +105,17 @@ no-room n s at done k to then x h = ap (fits n) (x .first) ∙ rw (le-ltb (size 
 
 pub record Counting (room : ℕ) (s : List ℕ) (from inside at done left : ℕ) : Type 0 where
   pub between : Between s at done
+  pub onward : from ≤ at
   pub within : left ≤ room
   pub rest : leftOver left (piecesLeft s at done) ≡ leftOver room (piecesLeft s from inside)
   pub sum : room - left + sizes (piecesLeft s at done) ≡ sizes (piecesLeft s from inside)
 
 pub counting-none : (room : ℕ) (s : List ℕ) (from inside : ℕ) → Between s from inside → Counting room s from inside from inside room
-counting-none room s from inside w = record { between = w; within = omega arith; rest = refl; sum = omega arith }
+counting-none room s from inside w = record { between = w; onward = omega arith; within = omega arith; rest = refl; sum = omega arith }
 
-pub counting-more : (room : ℕ) (s : List ℕ) (from inside at done left k to then : ℕ) → Counting room s from inside at done left → Piece s at done k to then → k + 2 < left
+pub counting-more : (room : ℕ) (s : List ℕ) (from inside at done left k to then : ℕ) → Counting room s from inside at done left → Piece s at done k to then → at ≤ to → k + 2 < left
     → Counting room s from inside to then (left - (k + 2))
-counting-more room s from inside at done left k to then f x h =
+counting-more room s from inside at done left k to then f x y h =
     let next : List Rec = piecesLeft s to then in
     let z : size (x .here) ≡ k + 2 = omega (arith, x .sized) in
     let o : leftOver left (piecesLeft s at done) ≡ leftOver (left - (k + 2)) next =
@@ -114,6 +123,7 @@ counting-more room s from inside at done left k to then f x h =
     let u : sizes (piecesLeft s at done) ≡ size (x .here) + sizes next = ap sizes (x .first) ∙ sizes-more (x .here) next in
     record {
       between = x .between;
+      onward = omega (arith, f .onward, y);
       within = omega (arith, f .within);
       rest = sym o ∙ f .rest;
       sum = omega (arith, u, x .sized, f .sum, f .within, h);
@@ -124,31 +134,8 @@ pub counted : (room : ℕ) (s : List ℕ) (from inside at done left : ℕ) → C
     → From s (leftOver room (piecesLeft s from inside)) at done
 counted room s from inside at done left f z = record { pieces = ap (λ (k : ℕ). drop k (piecesLeft s at done)) (sym z) ∙ f .rest; between = f .between }
 
--- ---- The sheet's end
+-- ---- Where the sheet begins
 
--- no piece is left only there
-pub ended : (s : List ℕ) (at done : ℕ) → From s [] at done → (length s ≤ at) × (done ≡ 0)
-ended s at done f = go (ltb at (length s)) refl
-  where
-    go : (b : Bool) → ltb at (length s) ≡ b → (length s ≤ at) × (done ≡ 0)
-    go true q = clash (let e = sym (f .pieces) ∙ piece-here s at done (f .between) (ltb-true at (length s) q) .first in cc)
-    go false q =
-        let h : length s ≤ at = ltb-false at (length s) q in
-        (h, subst (Inside done) (none-left s at h) (f .between .inside))
-
--- what was left over there begins there
-pub still-single : (n : ℕ) (s : List ℕ) (single at done to then : ℕ) → single ≤ at → Single s single at done → From s (leftOver n (piecesLeft s at done)) to then → Single s single to then
-unfolding fits
-still-single n s single at done to then h q f z =
-    let p = q z in
-    let none : piecesLeft s at done ≡ [] = no-pieces-left s at done (omega (arith, p .0)) in
-    let e = ended s to then (subst (λ (ps : List Rec). From s ps to then) (ap (leftOver n) none) f) in
-    (p .0, e .1, ap allSingle (none-left s to (e .0)))
-
--- of the whole sheet, as the verdict on it says
-pub begins-single : (s : List ℕ) (k : ℕ) → k ≡ singleTo (length s) (recordsLeft s 0) → Single s k 0 0
-begins-single s k e = go (allSingle (recordsLeft s 0)) refl e
-  where
-    go : (b : Bool) → allSingle (recordsLeft s 0) ≡ b → k ≡ cond b (length s) 0 → Single s k 0 0
-    go true q n z = (n, refl, q)
-    go false q n z = absurd (omega arith)
+-- as the verdict on it says
+pub begins-single : (s : List ℕ) (k : ℕ) → k ≡ singleTo 0 (recordsLeft s 0) → Single s k 0 0
+begins-single s k e z = (refl, e)

@@ -16,7 +16,7 @@ answerOf single (options.wrote p w) = Plan p single
 answerOf single (options.declined n p) = Refused n p
 
 abbrev pub singleOf : List ℕ → ℕ
-singleOf s = singleTo (length s) (recordsLeft s 0)
+singleOf s = singleTo 0 (recordsLeft s 0)
 
 -- what the writer answers for every buffer of n bytes
 abbrev pub Answers : List ℕ → ℕ → ℕ → Choice → Type 0

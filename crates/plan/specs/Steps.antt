@@ -1,14 +1,14 @@
 -- What the private functions are held to, here and in `writer`: the pieces that a field leaves over, and the first plan that fits. Assumes nothing.
 use mathlib.Core.Path.{_≡_}
 use mathlib.Core.List.{List, [], _∷_}
-use mathlib.Core.Bool.{true, cond}
-use Prim.Native.Nat.{ℕ, _<_}
+use mathlib.Core.Bool.{cond}
+use Prim.Native.Nat.{ℕ, _<_, _≤_}
 use lib.ListN.{length, drop}
 use lib.Dec.{eqb}
 use Rattle.options.specs.Message.{Rec}
 use Rattle.options.specs.SheetWalk.{recordsLeft}
 use Rattle.options.specs.Writing.{optionBytes, fits, planFits, plans, tryPlans, piecesLeft, Between}
-use Rattle.sheet.specs.Judge.{allSingle}
+use Rattle.sheet.specs.Judge.{singleTo}
 use Rattle.plan.specs.Answer.{answerOf}
 use Rattle.plan.specs.declared.Choice.{Choice}
 use Rattle.plan.specs.declared.Rest.{Rest}
@@ -26,13 +26,14 @@ pub record From (s : List ℕ) (ps : List Rec) (place done : ℕ) : Type 0 where
   pub pieces : piecesLeft s place done ≡ ps
   pub between : Between s place done
 
--- where `single` is not 0 it is the length of the sheet, and from the place on each record is one piece
+-- a place before `single` is that of a record, and from there up to `single` each is one piece
 abbrev pub Single : List ℕ → (single place done : ℕ) → Type 0
-Single s single place done = 0 < single → (single ≡ length s) × (done ≡ 0) × (allSingle (recordsLeft s place) ≡ true)
+Single s single place done = place < single → (done ≡ 0) × (single ≡ singleTo place (recordsLeft s place))
 
 -- where what a field of n bytes leaves over begins, and how much it is
 pub record RestOf (n : ℕ) (s : List ℕ) (at done : ℕ) (r : Rest) : Type 0 where
   pub from : From s (leftOver n (piecesLeft s at done)) (r .place) (r .done)
+  pub onward : at ≤ r .place
   pub total : r .total ≡ sizes (leftOver n (piecesLeft s at done))
 
 -- the plans that are tried after plan 0

@@ -9,7 +9,7 @@ ghost use Rattle.plan.specs.Answer.{Answers};
 ghost use Rattle.plan.specs.Pieces.{sizeOf, pieceOf};
 ghost use Rattle.plan.specs.Steps.{sizes, Single, RestOf, overloading, firstFit, Tries};
 
-// The plan, or number and place of the refusal. single: the length of the sheet where each of its records is one piece, else 0.
+// The plan, or number and place of the refusal. single: up to this place of the sheet each record is one piece.
 pub enum Choice {
     Plan { plan: u8, single: usize },
     Refused { number: u32, place: usize },
@@ -103,7 +103,7 @@ fn rest_pieces(room: usize, s: &[u8], from: usize, inside: usize, total: usize) 
     }
 }
 
-// The same. Where each record is one piece its length is its second length byte, which takes half the steps.
+// The same. Up to `single` each record is one piece, and its length is its second length byte, which takes half the steps.
 fn rest_after(
     room: usize,
     s: &[u8],

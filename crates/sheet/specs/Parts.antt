@@ -26,6 +26,9 @@ metBroken met c d = cond met (cond (among c noTags) 10 7) (faultOf c d)
 abbrev pub further : ℕ → ℕ
 further n = 2 * ((n - 1) / 255)
 
+abbrev pub lower : ℕ → ℕ → ℕ
+lower a b = cond (ltb a b) a b
+
 -- the place of a tag 3 that no tag 1 stands before, counted from 1 (0: none), after a record with tag c at a place so counted
 abbrev pub threeAfter : ℕ → Bool → ℕ → ℕ → ℕ
 threeAfter three one c here = cond (eqb c 3) (cond one three (cond (eqb three 0) here three)) three
@@ -38,15 +41,15 @@ oneAfter one c = either (eqb c 1) one
 abbrev pub tagsAfter : ℕ → Bool → ℕ → ℕ → Tags
 tagsAfter three one c here = record { three = threeAfter three one c here; one = oneAfter one c }
 
--- what is counted of the records: the bytes of the options, where each record before is counted so and each one behind by its own bytes, and whether
--- all were one piece
+-- what is counted of the records: the bytes of the options, where each record before is counted so and each one behind by its own bytes; and the place
+-- of the first that was several pieces, or the sheet's end
 pub record Sums : Type 0 where
   pub total : ℕ
   pub single : ℕ
 
--- after a record with n bytes of data: an option's head is one byte shorter than a record's
-abbrev pub sumsAfter : Sums → ℕ → Sums
-sumsAfter x n = record { total = x .total + further n - 1; single = cond (ltb 255 n) 0 (x .single) }
+-- after a record at a place, with n bytes of data: an option's head is one byte shorter than a record's
+abbrev pub sumsAfter : Sums → ℕ → ℕ → Sums
+sumsAfter x at n = record { total = x .total + further n - 1; single = cond (ltb 255 n) (lower at (x .single)) (x .single) }
 
 -- 14: "tag 3 stands before tag 1; tag 3's byte"
 abbrev pub orderOf : ℕ → Bool → Sums → Judged

@@ -8,7 +8,7 @@ use lib.Seq.{length-take-le, take-at}
 use mathlib.Core.Bool.{Bool, true, false, cond}
 use lib.Dec.{ltb}
 use borrow.Rule.Slice.PartMut.{putMid, midOf, same-len-mid}
-use borrow.Author.Tests.{lt-ltb, ne-eqb}
+use borrow.Author.Tests.{lt-ltb, ltb-true, ltb-false, ne-eqb}
 use Rattle.options.specs.Message.{Rec}
 use Rattle.options.specs.SheetWalk.{AllShort, recordsLeft}
 use Rattle.options.specs.Writing.{size, optionBytes, fits, fieldBytes, piecesLeft, Inside, Between}
@@ -93,12 +93,12 @@ module _ (L : ℕ) (s : List ℕ) (from inside : ℕ) (field : List ℕ) (at don
   lent = ap length (mid-rest end field) ∙ length-drop end field ∙ ap (λ (k : ℕ). k - end) (f .same)
 
   -- a turn; the piece has k bytes of data, and b is the part of the sheet that is lent for it
-  pub filling-more : (k to then : ℕ) (b ys : List ℕ) → Piece s at done k to then → k + 2 < L - end
+  pub filling-more : (k to then : ℕ) (b ys : List ℕ) → Piece s at done k to then → at ≤ to → k + 2 < L - end
       → b ≡ take k (drop (at + 3 + done) s)
       → ys ≡ withOption (midOf end (length field - end) field) (getD s at 0) b
       → length ys ≡ length (midOf end (length field - end) field)
       → Filling L s from inside (putMid end (length field - end) field ys) to then (end + (k + 2))
-  filling-more k to then b ys x h part y many =
+  filling-more k to then b ys x o h part y many =
       let r : Rec = x .here in
       let rest : List Rec = piecesLeft s to then in
       let room : List ℕ = midOf end (length field - end) field in
@@ -121,7 +121,7 @@ module _ (L : ℕ) (s : List ℕ) (from inside : ℕ) (field : List ℕ) (at don
             ∙ ap (λ (l : List ℕ). take end field ++ l) (sym (fill-more (L - end) r rest (omega (arith, takes, h))))
             ∙ ap (λ (rs : List Rec). take end field ++ filled (L - end) rs) (sym (x .first))
             ∙ f .written;
-        counts = subst (λ (j : ℕ). Counting L s from inside to then j) less (counting-more L s from inside at done (L - end) k to then (f .counts) x h);
+        counts = subst (λ (j : ℕ). Counting L s from inside to then j) less (counting-more L s from inside at done (L - end) k to then (f .counts) x o h);
       }
 
   -- the rest of the field, filled from here on
@@ -158,9 +158,17 @@ module _ (at done : ℕ) (h : at < 65536) (e : 255 * (done / 255) ≡ done) wher
   pub done-back : doneIn (at + 65536 * (done / 255)) ≡ done
   done-back = omega arith
 
--- where each record is one piece, it is the place
+-- a number below `single` is the place
 pub single-spot : (s : List ℕ) (single spot : ℕ) → Single s single (placeIn spot) (doneIn spot) → spot < single → spot < 65536
-single-spot s single spot q h = let p = q (omega arith) in omega (arith, p .1)
+single-spot s single spot q h = let p = q (omega arith) in omega (arith, p .0)
+
+-- any other has its place behind
+pub past-single : (s : List ℕ) (single spot : ℕ) → Single s single (placeIn spot) (doneIn spot) → single ≤ spot → single ≤ placeIn spot
+past-single s single spot q h = go (ltb (placeIn spot) single) refl
+  where
+    go : (b : Bool) → ltb (placeIn spot) single ≡ b → single ≤ placeIn spot
+    go true e = let p = q (ltb-true (placeIn spot) single e) in omega (arith, p .0, h)
+    go false e = ltb-false (placeIn spot) single e
 
 -- at most 1,024 bytes of a record are done
 pub done-few : (s : List ℕ) (at done : ℕ) → Between s at done → done ≤ 1024

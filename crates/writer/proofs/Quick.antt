@@ -1,4 +1,4 @@
--- A field's filling where each record is one piece. Assumes nothing.
+-- A field's filling as far as each record is one piece. Assumes nothing.
 use mathlib.Core.Path.{_≡_, refl, sym, ap, ap₂, _∙_, subst}
 use mathlib.Core.List.{List}
 use Prim.Native.Nat.{ℕ, _+_, _-_, _*_, _/_, _%_, _<_, _≤_}
@@ -8,10 +8,10 @@ use borrow.Rule.Slice.PartMut.{putMid, midOf}
 use Rattle.options.specs.Message.{Rec}
 use Rattle.options.specs.Writing.{fits, piecesLeft, Between}
 use Rattle.plan.specs.Steps.{leftOver, From, Single}
-use Rattle.plan.proofs.Counting.{Turn, turn, Counting, counted, still-single}
+use Rattle.plan.proofs.Counting.{Turn, turn, Counting, counted}
 use Rattle.field_writer.specs.Room.{withOption, endAndZeros}
 use Rattle.writer.specs.Fill.{filled, placeIn, doneIn, piecesAt, Spot, Left}
-use Rattle.writer.proofs.Filling.{Filling, filling-none, filling-more, lent, handed, closed, place-is, none-done, single-spot}
+use Rattle.writer.proofs.Filling.{Filling, filling-none, filling-more, lent, handed, closed, place-is, none-done, single-spot, past-single}
 
 -- the loop has reached the place `at`
 pub record Quick (L : ℕ) (s : List ℕ) (single spot : ℕ) (field : List ℕ) (at end : ℕ) : Type 0 where
@@ -49,7 +49,7 @@ module _ (L : ℕ) (s : List ℕ) (single spot : ℕ) (field : List ℕ) (at end
         let less : to < 65536 = omega (arith, x .within, q .spot-is .few) in
         let place : at + 3 ≡ at + 3 + 0 = omega arith in
         let f : Filling L s (placeIn spot) (doneIn spot) (putMid end (length field - end) field ys) to 0 (end + (k + 2)) =
-        filling-more L s (placeIn spot) (doneIn spot) field at 0 end here k to 0 b ys (x .piece) r (part ∙ ap (λ (i : ℕ). take k (drop i s)) place) y many in
+        filling-more L s (placeIn spot) (doneIn spot) field at 0 end here k to 0 b ys (x .piece) (omega arith) r (part ∙ ap (λ (i : ℕ). take k (drop i s)) place) y many in
         record {
           filling = moved to less (λ (i j : ℕ). Filling L s (placeIn spot) (doneIn spot) (putMid end (length field - end) field ys) i j (end + (k + 2))) f;
           spot-is = record { few = q .spot-is .few; between = moved to less (Between s) (x .piece .between); singles = moved to less (Single s single) (x .singles) };
@@ -70,19 +70,15 @@ module _ (L : ℕ) (s : List ℕ) (single spot : ℕ) (field : List ℕ) (at end
   -- the rest of the field, filled from here on
   pub quick-handed : single ≤ at → (ys : List ℕ) (r : ℕ) → ys ≡ filled (length (midOf end (length field - end) field)) (piecesAt s at)
       → From s (leftOver (length (midOf end (length field - end) field)) (piecesAt s at)) (placeIn r) (doneIn r)
+      → placeIn at ≤ placeIn r
       → (putMid end (length field - end) field ys ≡ filled L (piecesAt s spot)) × Left s single (leftOver L (piecesAt s spot)) r
-  quick-handed h ys r y f =
+  quick-handed h ys r y f o =
       let room : ℕ = length (midOf end (length field - end) field) in
       let n : room ≡ L - end = lent L s (placeIn spot) (doneIn spot) field (placeIn at) (doneIn at) end (q .filling) in
       let e : leftOver room (piecesAt s at) ≡ leftOver L (piecesAt s spot) = ap (λ (k : ℕ). leftOver k (piecesAt s at)) n ∙ q .filling .counts .rest in (
         handed L s (placeIn spot) (doneIn spot) field (placeIn at) (doneIn at) end (q .filling) ys y,
         record {
           pieces = f .pieces ∙ e;
-          spot-is = record { few = q .spot-is .few; between = f .between; singles = λ z. on room f z };
+          spot-is = record { few = q .spot-is .few; between = f .between; singles = λ z. absurd (omega (arith, z, o, past-single s single at (q .spot-is .singles) h)) };
         },
       )
-    where
-      on : (room : ℕ) → From s (leftOver room (piecesAt s at)) (placeIn r) (doneIn r) → Single s single (placeIn r) (doneIn r)
-      on room g z =
-          let p = q .spot-is .singles z in
-          still-single room s single (placeIn at) (doneIn at) (placeIn r) (doneIn r) (omega (arith, p .1, h)) (q .spot-is .singles) g z

@@ -25,7 +25,7 @@ fn put_cookie(room: &mut [u8])
 }
 
 // A place between two pieces of the sheet is one number: the place of their record, and 65,536 for each piece of 255 bytes before. So it goes in a
-// register, and is the place itself where each record is one piece.
+// register, and is the place itself where no piece of the record is before.
 
 // The next piece of the record at a place of the sheet.
 fn piece_here(s: &[u8], at: usize, done: usize) -> Piece
@@ -38,7 +38,7 @@ fn piece_here(s: &[u8], at: usize, done: usize) -> Piece
 // Writes the pieces from a place on, "while each fits with one byte kept for END", then END and zeros. The result is the place after the last one.
 fn fill_pieces(field: &mut [u8], s: &[u8], spot: usize) -> usize
     requires { ⌜ (length (now s) ≤ 4096) × Between (now s) (placeIn spot) (doneIn spot) ⌝ }
-    ensures { λ r. ⌜ (now (field .exit) ≡ filled (length (now (field .entry))) (piecesAt (now (s .entry)) spot)) × From (now (s .entry)) (leftOver (length (now (field .entry))) (piecesAt (now (s .entry)) spot)) (placeIn r) (doneIn r) ⌝ }
+    ensures { λ r. ⌜ (now (field .exit) ≡ filled (length (now (field .entry))) (piecesAt (now (s .entry)) spot)) × From (now (s .entry)) (leftOver (length (now (field .entry))) (piecesAt (now (s .entry)) spot)) (placeIn r) (doneIn r) × (placeIn spot ≤ placeIn r) ⌝ }
 {
     let mut at = spot % 65536;
     let mut done = 255 * (spot / 65536);
@@ -60,7 +60,7 @@ fn fill_pieces(field: &mut [u8], s: &[u8], spot: usize) -> usize
     at + 65536 * (done / 255)
 }
 
-// The same. Where each record is one piece its length is its second length byte, which takes fewer steps.
+// The same. Up to `single` each record is one piece, and its length is its second length byte, which takes fewer steps.
 fn fill(field: &mut [u8], s: &[u8], single: usize, spot: usize) -> usize
     requires { ⌜ Spot (now s) single spot ⌝ }
     ensures { λ r. ⌜ (now (field .exit) ≡ filled (length (now (field .entry))) (piecesAt (now (s .entry)) spot)) × Left (now (s .entry)) single (leftOver (length (now (field .entry))) (piecesAt (now (s .entry)) spot)) r ⌝ }

@@ -9,7 +9,7 @@ use denote.Ref.{now}
 use Rattle.options.specs.Message.{Rec}
 use Rattle.options.specs.Writing.{fits, piecesLeft}
 use Rattle.plan.specs.Steps.{sizes, leftOver, From, Single}
-use Rattle.plan.proofs.Counting.{Turn, turn, no-room, Counting, counting-none, counting-more, counted, still-single}
+use Rattle.plan.proofs.Counting.{Turn, turn, no-room, Counting, counting-none, counting-more, counted}
 use borrow.Author.Needs.{needs}
 use Rattle.plan.proofs.rest_after.Statement.{statement}
 use Rattle.plan.proofs.rest_after.Tie as tie
@@ -87,7 +87,7 @@ returns c =
     let o : From (sheet l) (leftOver (a .room) (piecesLeft (sheet l) (a .from) (a .inside))) (l .loop .place) (a .inside) =
     counted _ (sheet l) (a .from) (a .inside) (l .loop .place) (a .inside) (l .loop .left) (l .loop .inv .0) z in
     let d : a .inside ≡ 0 = x .none-done in (
-      record { from = subst (From (sheet l) (leftOver (a .room) (piecesLeft (sheet l) (a .from) (a .inside))) (l .loop .place)) d o; total = less l ∙ ap sizes (o .pieces) },
+      record { onward = l .loop .inv .0 .onward; from = subst (From (sheet l) (leftOver (a .room) (piecesLeft (sheet l) (a .from) (a .inside))) (l .loop .place)) d o; total = less l ∙ ap sizes (o .pieces) },
       subst (Single (sheet l) (a .single) (l .loop .place)) d (l .loop .inv .1),
     )
 
@@ -106,7 +106,7 @@ loop-less c = omega (arith, after (c .before) .within)
 loop-again : tie.Need-loop-again Inv-loop μ-loop
 loop-again c =
     let l = loopOf (c .before) .loop in
-    (counting-more _ _ _ _ (l .place) _ (l .left) _ _ _ (l .inv .0) (after (c .before) .piece) (c .if1 .left), after (c .before) .singles)
+    (counting-more _ _ _ _ (l .place) _ (l .left) _ _ _ (l .inv .0) (after (c .before) .piece) (omega arith) (c .if1 .left), after (c .before) .singles)
 
 sub-rest-pieces : tie.Need-sub-rest-pieces Inv-loop μ-loop
 sub-rest-pieces c = c .before .loop .inv .0 .within
@@ -123,8 +123,8 @@ returns-2 c =
     let a = start l .args in
     let r = c .rest-pieces .ensures in
     let e : leftOver (l .loop .left) (piecesLeft (sheet l) (l .loop .place) (a .inside)) ≡ leftOver (a .room) (piecesLeft (sheet l) (a .from) (a .inside)) = l .loop .inv .0 .rest in (
-      record { from = record { pieces = r .from .pieces ∙ e; between = r .from .between }; total = r .total ∙ ap sizes e },
-      still-single (l .loop .left) (sheet l) (a .single) (l .loop .place) (a .inside) _ _ (c .before .loop-test .left) (l .loop .inv .1) (r .from),
+      record { from = record { pieces = r .from .pieces ∙ e; between = r .from .between }; onward = omega (arith, l .loop .inv .0 .onward, r .onward); total = r .total ∙ ap sizes e },
+      λ z. absurd (omega (arith, z, c .before .loop-test .left, r .onward)),
     )
 
 pub rest-after-spec : {M : Type 1} → statement M

@@ -65,7 +65,7 @@ loop-again : tie.Need-loop-again Inv-loop μ-loop
 loop-again c =
     let cut = c .before .before .before in
     let l = loopOf cut .loop in
-    counting-more _ _ _ _ (l .place) (l .done) (l .left) _ _ _ (l .inv) (piece cut) (c .before .if1 .left)
+    counting-more _ _ _ _ (l .place) (l .done) (l .left) _ _ _ (l .inv) (piece cut) (omega arith) (c .before .if1 .left)
 
 sub-t13 : tie.Need-sub-t13 Inv-loop μ-loop
 sub-t13 c = c .before .loop .inv .within
@@ -86,7 +86,7 @@ returns c =
     let o : From s (leftOver (start .args .room) (piecesLeft s (start .args .from) (start .args .inside))) (loop .place) (loop .done) =
     counted _ s (start .args .from) (start .args .inside) (loop .place) (loop .done) (loop .left) (loop .inv) z in
     let n : start .args .total - (start .args .room - loop .left) ≡ sizes (piecesLeft s (loop .place) (loop .done)) = omega (arith, start .pre .1, loop .inv .sum) in
-    record { from = o; total = n ∙ ap sizes (o .pieces) }
+    record { from = o; onward = loop .inv .onward; total = n ∙ ap sizes (o .pieces) }
 
 pub rest-pieces-spec : {M : Type 1} → statement M
 rest-pieces-spec =

@@ -192,7 +192,7 @@ returns-2 c =
     let call = c .before .before .fill-pieces in
     let left = c .before .before .before .before in
     let l = left .before .loop in
-    quick-handed _ (sheet (left .before)) (start (left .before) .args .single) (start (left .before) .args .spot) (l .field) (l .at) (l .end) (l .inv) (left .loop-test .left) (call .last .0) (call .result) (call .ensures .0) (call .ensures .1)
+    quick-handed _ (sheet (left .before)) (start (left .before) .args .single) (start (left .before) .args .spot) (l .field) (l .at) (l .end) (l .inv) (left .loop-test .left) (call .last .0) (call .result) (call .ensures .0) (call .ensures .1) (call .ensures .2)
 
 pub fill-spec : {M : Type 1} → statement M
 fill-spec =

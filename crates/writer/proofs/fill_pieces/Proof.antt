@@ -156,7 +156,7 @@ loop-again c =
     let i : ℕ = l .at + 3 + l .done in
     let k : ℕ = cut .piece-here .result .size in
     let spot = start (loopOf cut) .args .spot in (
-      filling-more _ s (placeIn spot) (doneIn spot) (l .field) (l .at) (l .done) (l .end) (l .inv .0) k _ _ _ (put .put-option .last .0) (piece cut) (fits-here fit)
+      filling-more _ s (placeIn spot) (doneIn spot) (l .field) (l .at) (l .done) (l .end) (l .inv .0) k _ _ _ (put .put-option .last .0) (piece cut) (omega arith) (fits-here fit)
           (part-is s i (i + k) k (omega arith)) (put .put-option .ensures) (put .put-option .kept .0),
       still-255 (sizeOf s (l .at)) (l .done) (cut .piece-here .result) (l .inv .1) (cut .piece-here .ensures),
     )
@@ -211,6 +211,7 @@ returns c =
       closed _ s (placeIn spot) (doneIn spot) (loop .field) (loop .at) (loop .done) (loop .end) (loop .inv .0) z (shut .last .0) (shut .ensures),
       subst (λ (j : ℕ). From s ps (placeIn (loop .at + 65536 * (loop .done / 255))) j) (sym (done-back (loop .at) (loop .done) (few at-loop) (loop .inv .1)))
           (subst (λ (i : ℕ). From s ps i (loop .done)) (sym (place-back (loop .at) (loop .done) (few at-loop) (loop .inv .1))) from),
+      omega (arith, loop .inv .0 .counts .onward, place-back (loop .at) (loop .done) (few at-loop) (loop .inv .1)),
     )
 
 pub fill-pieces-spec : {M : Type 1} → statement M

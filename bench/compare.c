@@ -3,6 +3,8 @@
  *                            looks up three codes also with any byte changed
  * compare index FILE...      builds an index of each message with both, also with any byte changed, and looks up every code through it and through
  *                            others; an index of the same bytes must give the answers of the plain lookup
+ * compare grouped FILE...    checks each grouped file, chooses from it and takes it back with both: cut off anywhere, any byte changed; its
+ *                            bytes moved as a sheet
  * compare sheets FILE...     writes each sheet with both: every buffer size, every permission, cut off anywhere, any byte changed
  * compare vendor FILE...     reads each as items with both, and writes it as records of items: every room, cut off anywhere, any byte changed
  */
@@ -12,9 +14,9 @@
 
 #include <string.h>
 
-enum { ROOM = 4096, COPY_ROOM = 1480, UNTOUCHED = 0xA5, LONGEST = 1472 };
+enum { ROOM = 4096, FILE_ROOM = 4104, COPY_ROOM = 1480, UNTOUCHED = 0xA5, LONGEST = 1472 };
 
-static uint8_t in[ROOM];
+static uint8_t in[FILE_ROOM];
 static size_t size;
 
 static const uint64_t every[4] = {UINT64_MAX, UINT64_MAX, UINT64_MAX, UINT64_MAX};
@@ -240,10 +242,56 @@ static void compare_vendor(const char *name)
     }
 }
 
+static void equal_filled(const char *name, const char *call, plain_filled p, dhcpopt_filled l, const uint8_t *a, const uint8_t *b, size_t room)
+{
+    if (p.refusal != l.refusal || p.size != l.size || p.place != l.place || memcmp(a, b, room) != 0) {
+        fprintf(stderr, "%s: plain %u %zu %zu, library %u %zu %zu\n", call, p.refusal, p.size, p.place, l.refusal, l.size, l.place);
+        fail("grouped differs", name);
+    }
+}
+
+/* Every call on grouped sheets, on the first n bytes. */
+static void compare_grouped(const char *name, size_t n, size_t room)
+{
+    static const char *const classes[] = {"", "meter", "scale"};
+    static uint8_t a[FILE_ROOM], b[FILE_ROOM];
+    memset(a, UNTOUCHED, sizeof a);
+    memset(b, UNTOUCHED, sizeof b);
+    plain_checked p = plain_check_grouped(in, n);
+    dhcpopt_checked l = dhcpopt_check_grouped(in, n);
+    if (p.refusal != l.refusal || p.place != l.place) {
+        fprintf(stderr, "check: plain %u %zu, library %u %zu\n", p.refusal, p.place, l.refusal, l.place);
+        fail("checked differs", name);
+    }
+    for (size_t i = 0; i < 3; i++) {
+        const uint8_t *class = (const uint8_t *)classes[i];
+        size_t letters = strlen(classes[i]);
+        equal_filled(name, "choose", plain_choose(in, n, class, letters, a, room), dhcpopt_choose(in, n, class, letters, b, room), a, b, sizeof a);
+    }
+    equal_filled(name, "ungroup", plain_ungroup(in, n, a, room), dhcpopt_ungroup(in, n, b, room), a, b, sizeof a);
+    equal_filled(name, "group", plain_group(in + 4, n < 4 ? 0 : n - 4, a, room), dhcpopt_group(in + 4, n < 4 ? 0 : n - 4, b, room), a, b, sizeof a);
+}
+
+static void compare_file(const char *name)
+{
+    for (size_t n = 0; n <= size; n++)
+        compare_grouped(name, n, FILE_ROOM);
+    for (size_t room = 0; room <= 64; room++)
+        compare_grouped(name, size, room);
+    for (size_t i = 0; i < size && i < 400; i++) {
+        uint8_t was = in[i];
+        for (unsigned x = 0; x < 256; x++) {
+            in[i] = (uint8_t)x;
+            compare_grouped(name, size, FILE_ROOM);
+        }
+        in[i] = was;
+    }
+}
+
 int main(int argc, char **argv)
 {
     if (argc < 3)
-        fail("usage", "compare messages|index|sheets|vendor FILE...");
+        fail("usage", "compare messages|index|sheets|vendor|grouped FILE...");
     for (int i = 2; i < argc; i++) {
         memset(in, 0, sizeof in);
         size = take(argv[i], in, sizeof in);
@@ -253,6 +301,8 @@ int main(int argc, char **argv)
             compare_index(argv[i]);
         else if (strcmp(argv[1], "vendor") == 0)
             compare_vendor(argv[i]);
+        else if (strcmp(argv[1], "grouped") == 0)
+            compare_file(argv[i]);
         else {
             compare_message(argv[i]);
             compare_changed(argv[i]);

@@ -2,7 +2,8 @@
  * driver plain|rust|library CALL FILE [NUMBER...]   makes one call, for `run` to count
  * driver time CALL FILE [NUMBER...]                 prints the nanoseconds of a call: plain C's, plain Rust's and the library's
  *
- * FILE is a message, the sheet to write, or for vendor_records the data of an option 43.
+ * FILE is a message, the sheet to write or to group, for vendor_records the data of an option 43, or a grouped file, from which is chosen for
+ * the class "meter".
  * The numbers: the code for lookup, data, copy and index_lookup; the buffer's size and the permission for write.
  * The library's side is left out unless LIBRARY is defined, Rust's unless RUST is.
  */
@@ -16,7 +17,7 @@
 #include <string.h>
 #include <time.h>
 
-enum { ROOM = 4096, CALLS = 2000, REPETITIONS = 500 };
+enum { ROOM = 4100, CALLS = 2000, REPETITIONS = 500 };
 
 static uint8_t in[ROOM], out[ROOM];
 static size_t size, room;
@@ -46,6 +47,12 @@ __attribute__((noinline)) static bool plain_thirty(void)
     return good;
 }
 static bool thirty_plain(void) { return plain_thirty(); }
+static const uint8_t meter[5] = "meter";
+
+static bool choose_plain(void) { return plain_choose(in, size, meter, sizeof meter, out, ROOM).refusal == 0; }
+static bool check_grouped_plain(void) { return plain_check_grouped(in, size).refusal == 0; }
+static bool group_plain(void) { return plain_group(in, size, out, ROOM).refusal == 0; }
+static bool ungroup_plain(void) { return plain_ungroup(in, size, out, ROOM).refusal == 0; }
 static bool write_plain(void) { return plain_write(in, size, out, room, permission).refusal == 0; }
 static bool vendor_records_plain(void) { return plain_vendor_records(in, size, out, ROOM).refusal == 0; }
 static bool vendor_write_plain(void) { return plain_vendor_write(in, size, out, ROOM).refusal == 0; }
@@ -70,6 +77,10 @@ __attribute__((noinline)) static bool dhcpopt_thirty(void)
     return good;
 }
 static bool thirty_library(void) { return dhcpopt_thirty(); }
+static bool choose_library(void) { return dhcpopt_choose(in, size, meter, sizeof meter, out, ROOM).refusal == 0; }
+static bool check_grouped_library(void) { return dhcpopt_check_grouped(in, size).refusal == 0; }
+static bool group_library(void) { return dhcpopt_group(in, size, out, ROOM).refusal == 0; }
+static bool ungroup_library(void) { return dhcpopt_ungroup(in, size, out, ROOM).refusal == 0; }
 static bool write_library(void) { return dhcpopt_write(in, size, out, room, permission).refusal == 0; }
 static bool vendor_records_library(void) { return dhcpopt_vendor_records(in, size, out, ROOM).refusal == 0; }
 static bool vendor_write_library(void) { return dhcpopt_vendor_write(in, size, out, ROOM).refusal == 0; }
@@ -87,6 +98,10 @@ dhcpopt_filled independent_records(const uint8_t *m, size_t n, uint8_t *out, siz
 dhcpopt_filled independent_index_build(const uint8_t *m, size_t n, uint16_t *index, size_t count);
 dhcpopt_answer independent_index_lookup(const uint8_t *m, size_t n, const uint16_t *index, size_t count, uint64_t k0, uint64_t k1,
                                         uint64_t k2, uint64_t k3, uint8_t code);
+dhcpopt_filled independent_choose(const uint8_t *f, size_t n, const uint8_t *class, size_t letters, uint8_t *out, size_t room);
+dhcpopt_checked independent_check_grouped(const uint8_t *f, size_t n);
+dhcpopt_filled independent_group(const uint8_t *s, size_t n, uint8_t *out, size_t room);
+dhcpopt_filled independent_ungroup(const uint8_t *f, size_t n, uint8_t *out, size_t room);
 dhcpopt_wrote independent_write(const uint8_t *sheet, size_t n, uint8_t *m, size_t room, uint8_t permission);
 dhcpopt_filled independent_vendor_records(const uint8_t *bytes, size_t n, uint8_t *out, size_t room);
 dhcpopt_filled independent_vendor_write(const uint8_t *sheet, size_t n, uint8_t *out, size_t room);
@@ -108,6 +123,10 @@ __attribute__((noinline)) static bool independent_thirty(void)
     return good;
 }
 static bool thirty_rust(void) { return independent_thirty(); }
+static bool choose_rust(void) { return independent_choose(in, size, meter, sizeof meter, out, ROOM).refusal == 0; }
+static bool check_grouped_rust(void) { return independent_check_grouped(in, size).refusal == 0; }
+static bool group_rust(void) { return independent_group(in, size, out, ROOM).refusal == 0; }
+static bool ungroup_rust(void) { return independent_ungroup(in, size, out, ROOM).refusal == 0; }
 static bool write_rust(void) { return independent_write(in, size, out, room, permission).refusal == 0; }
 static bool vendor_records_rust(void) { return independent_vendor_records(in, size, out, ROOM).refusal == 0; }
 static bool vendor_write_rust(void) { return independent_vendor_write(in, size, out, ROOM).refusal == 0; }
@@ -124,7 +143,8 @@ typedef struct {
 
 static const char *const names[3] = {"plain", "rust", "library"};
 static const call_sides calls[] = {SIDES(lookup), SIDES(data), SIDES(copy), SIDES(present), SIDES(records), SIDES(write),
-                                   SIDES(vendor_records), SIDES(vendor_write), SIDES(index_build), SIDES(index_lookup), SIDES(thirty)};
+                                   SIDES(vendor_records), SIDES(vendor_write), SIDES(index_build), SIDES(index_lookup), SIDES(thirty),
+                                   SIDES(choose), SIDES(check_grouped), SIDES(group), SIDES(ungroup)};
 
 static const call_sides *find(const char *name)
 {

@@ -199,6 +199,30 @@ def growth(n):
     )
 
 
+def group(name, inside):
+    return b"\0" + (1 + len(name) + len(inside)).to_bytes(2, "big") + bytes((len(name),)) + name + inside
+
+
+def some_records(count, length, first=1):
+    """So many records of so many bytes of data each."""
+    return b"".join(bytes((1 + (first + i) % 51, 0, length)) + bytes(length) for i in range(count))
+
+
+def clinics():
+    """4,100 bytes: what all devices have, and groups of three classes with further groups in them."""
+    def device(name):
+        return group(name, some_records(40, 6) + group(b"", some_records(20, 4) + group(name, some_records(12, 9))) + some_records(30, 5))
+    inside = some_records(30, 8) + device(b"meter") + device(b"scale") + device(b"printer") + some_records(20, 4)
+    left = 4100 - 4 - len(inside) - 3
+    inside += b"\x2b" + left.to_bytes(2, "big") + bytes(left)
+    return group(b"", inside)
+
+
+def flat():
+    """4,096 bytes of records: 409 of 7 bytes of data, and one of 3."""
+    return some_records(409, 7) + some_records(1, 3)
+
+
 def write(folder, files):
     folder.mkdir(parents=True, exist_ok=True)
     for name, content in files:
@@ -226,5 +250,8 @@ else:
             ("eight.sheet", eight()),
             ("probes.vendor", items()),
             ("probes.records", item_records()),
+            ("clinics.grouped", clinics()),
+            ("flat.grouped", group(b"", flat())),
+            ("flat.settings", flat()),
         ],
     )

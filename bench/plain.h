@@ -1,4 +1,4 @@
-/* The reader and writer of document 01, with requests 01 to 07 of document 02, in plain C: the measure for the library's calls. */
+/* The reader and writer of document 01, with requests 01 to 08 of document 02, in plain C: the measure for the library's calls. */
 #ifndef PLAIN_H
 #define PLAIN_H
 
@@ -63,6 +63,12 @@ typedef struct {
     size_t place;
 } plain_wrote;
 
+/* refusal 0: no fault. */
+typedef struct {
+    uint32_t refusal;
+    size_t place;
+} plain_checked;
+
 plain_answer plain_lookup(const uint8_t *m, size_t n, const uint64_t known[4], uint8_t code);
 plain_extent plain_data(const uint8_t *m, size_t n, uint8_t code);
 plain_filled plain_copy(const uint8_t *m, size_t n, uint8_t code, uint8_t *out, size_t room);
@@ -74,5 +80,11 @@ plain_answer plain_index_lookup(const uint8_t *m, size_t n, const uint16_t *inde
 plain_wrote plain_write(const uint8_t *sheet, size_t n, uint8_t *m, size_t room, uint8_t permission);
 plain_filled plain_vendor_records(const uint8_t *bytes, size_t n, uint8_t *out, size_t room);
 plain_filled plain_vendor_write(const uint8_t *sheet, size_t n, uint8_t *out, size_t room);
+
+/* Grouped sheets, request 08. */
+plain_checked plain_check_grouped(const uint8_t *f, size_t n);
+plain_filled plain_choose(const uint8_t *f, size_t n, const uint8_t *class, size_t letters, uint8_t *out, size_t room);
+plain_filled plain_group(const uint8_t *sheet, size_t n, uint8_t *out, size_t room);
+plain_filled plain_ungroup(const uint8_t *f, size_t n, uint8_t *out, size_t room);
 
 #endif

@@ -392,6 +392,42 @@ static void vendor_limits(void)
     CHECK(f.refusal == DHCPOPT_REFUSED_SHEET_TOO_LONG && f.place == DHCPOPT_LONGEST_SHEET + 1);
 }
 
+/* A group for all with one for "a" and one for "b" in it. */
+static void grouped(void)
+{
+    static const uint8_t file[22] = {0, 0, 19, 0, 53, 0, 1, 5, 0, 0, 5, 1, 'a', 12, 0, 0, 0, 0, 2, 1, 'b', 9};
+    static const uint8_t type[4] = {53, 0, 1, 5};
+    static const uint8_t moved[8] = {0, 0, 5, 0, 53, 0, 1, 5};
+    uint8_t out[9];
+    dhcpopt_checked c = dhcpopt_check_grouped(file, sizeof file);
+    CHECK(c.refusal == DHCPOPT_REFUSED_BAD_GROUP && c.place == 21);
+    c = dhcpopt_check_grouped(file, 3);
+    CHECK(c.refusal == DHCPOPT_REFUSED_BAD_GROUP && c.place == 0);
+    uint8_t whole[21];
+    memcpy(whole, file, sizeof whole);
+    whole[2] = 18;
+    c = dhcpopt_check_grouped(whole, sizeof whole);
+    CHECK(c.refusal == DHCPOPT_NOT_REFUSED && c.place == 0);
+    memset(out, 238, sizeof out);
+    dhcpopt_filled f = dhcpopt_choose(whole, sizeof whole, (const uint8_t *)"a", 1, out, 6);
+    CHECK(f.refusal == DHCPOPT_REFUSED_NO_ROOM && f.size == 0 && f.place == 6);
+    f = dhcpopt_ungroup(whole, sizeof whole, out, sizeof out);
+    CHECK(f.refusal == DHCPOPT_REFUSED_NO_WAY_BACK && f.size == 0 && f.place == 0);
+    f = dhcpopt_group(file, 4, out, sizeof out);
+    CHECK(f.refusal == DHCPOPT_REFUSED_RECORD_TRUNCATED && f.size == 0 && f.place == 0);
+    CHECK(out[0] == 238 && memcmp(out, out + 1, sizeof out - 1) == 0);
+    f = dhcpopt_choose(whole, sizeof whole, (const uint8_t *)"a", 1, out, sizeof out);
+    CHECK(f.refusal == DHCPOPT_NOT_REFUSED && f.size == 7 && f.place == 0);
+    CHECK(memcmp(out, type, 4) == 0 && out[4] == 12 && out[5] == 0 && out[6] == 0 && out[7] == 238);
+    f = dhcpopt_choose(whole, sizeof whole, (const uint8_t *)"b", 1, out, sizeof out);
+    CHECK(f.refusal == DHCPOPT_NOT_REFUSED && f.size == 4 && out[4] == 12);
+    f = dhcpopt_group(type, sizeof type, out, sizeof out);
+    CHECK(f.refusal == DHCPOPT_NOT_REFUSED && f.size == 8 && f.place == 0);
+    CHECK(memcmp(out, moved, sizeof moved) == 0 && out[8] == 238);
+    f = dhcpopt_ungroup(moved, sizeof moved, out, sizeof out);
+    CHECK(f.refusal == DHCPOPT_NOT_REFUSED && f.size == 4 && f.place == 0 && memcmp(out, type, 4) == 0 && out[4] == 53);
+}
+
 int main(void)
 {
     lookup();
@@ -407,6 +443,7 @@ int main(void)
     write_long();
     vendor();
     vendor_limits();
+    grouped();
     if (!failed)
         printf("every member is as declared\n");
     return failed;

@@ -3,6 +3,7 @@
  *
  *   service read MESSAGE [CODE...]                 CODE...: the codes that the meter knows. None given: all
  *   service offer SHEET SIZE PERMISSION [MESSAGE]  SIZE: bytes of the message; MESSAGE: a file to write it to
+ *   service choose GROUPED CLASS SIZE PERMISSION   the same from a sheet for all devices, for those of a class
  *
  * Exit status: 0 done, 1 refused, or a setting is broken, 2 wrong usage, or a file that cannot be read or written.
  */
@@ -50,7 +51,10 @@ static const struct {
     [DHCPOPT_REFUSED_RECORD_TOO_LONG] = {"a record has more than 1,024 data bytes", "its tag byte"},
     [DHCPOPT_REFUSED_ROUTER_BEFORE_MASK] = {"the router (3) stands before the subnet mask (1)", "the byte of tag 3"},
     [DHCPOPT_REFUSED_BAD_PERMISSION] = {"the permission is over 3", "always 0"},
-    [DHCPOPT_REFUSED_SHEET_TOO_LONG] = {"the sheet is over 4,096 bytes", "its length"},
+    [DHCPOPT_REFUSED_SHEET_TOO_LONG] = {"the sheet is over 4,096 bytes, or the grouped file over 4,100", "its length"},
+    [DHCPOPT_REFUSED_BAD_GROUP] = {"a group or record goes beyond what is around it, or the file is not exactly one group", "its tag byte, or the first byte behind the group"},
+    [DHCPOPT_REFUSED_TOO_DEEP] = {"a group is of a fifth depth", "its tag byte"},
+    [DHCPOPT_REFUSED_NO_WAY_BACK] = {"the file has a name or a group inside", "always 0"},
 };
 
 static const char *const PLANS[] = {
@@ -63,6 +67,7 @@ static const char *const PLANS[] = {
 /* One byte more than the longest is taken in, so that a longer one is seen and refused. */
 static uint8_t message[DHCPOPT_LONGEST_MESSAGE + 1];
 static uint8_t sheet[DHCPOPT_LONGEST_SHEET + 1];
+static uint8_t grouped[DHCPOPT_LONGEST_GROUPED + 1];
 
 static int fail(const char *what, const char *which)
 {
@@ -280,6 +285,27 @@ static int offer_command(int argc, char **argv)
     return result;
 }
 
+static int choose_command(char **argv)
+{
+    size_t size_of_file;
+    unsigned long size, permission;
+    if (!read_number(argv[4], sizeof message, &size))
+        return fail("not a size from 0 to 1473", argv[4]);
+    if (!read_number(argv[5], 255, &permission))
+        return fail("not a permission from 0 to 255", argv[5]);
+    if (!read_file(argv[2], grouped, sizeof grouped, &size_of_file))
+        return fail("cannot be read", argv[2]);
+    dhcpopt_filled chosen = dhcpopt_choose(grouped, size_of_file, (const uint8_t *)argv[3], strlen(argv[3]), sheet, sizeof sheet);
+    if (chosen.refusal != DHCPOPT_NOT_REFUSED) {
+        tell_refusal("refused", chosen.refusal, chosen.place);
+        printf("\n");
+        return REFUSED;
+    }
+    printf("chosen: %zu bytes\n", chosen.size);
+    dump(sheet, chosen.size);
+    return offer(chosen.size, size, (uint8_t)permission);
+}
+
 int main(int argc, char **argv)
 {
     int result;
@@ -287,9 +313,12 @@ int main(int argc, char **argv)
         result = read_command(argc, argv);
     } else if ((argc == 5 || argc == 6) && strcmp(argv[1], "offer") == 0) {
         result = offer_command(argc, argv);
+    } else if (argc == 6 && strcmp(argv[1], "choose") == 0) {
+        result = choose_command(argv);
     } else {
         fputs("usage: service read MESSAGE [CODE...]\n"
-              "       service offer SHEET SIZE PERMISSION [MESSAGE]\n",
+              "       service offer SHEET SIZE PERMISSION [MESSAGE]\n"
+              "       service choose GROUPED CLASS SIZE PERMISSION\n",
               stderr);
         return FAILED;
     }

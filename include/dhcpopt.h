@@ -1,9 +1,9 @@
 /*
  * The options of one DHCPv4 message (RFC 2131, RFC 2132, RFC 3396): a reader and a writer, for C11 and C++17 on x86-64 Linux.
  *
- * libdhcpopt_reader.a has every call but dhcpopt_write, dhcpopt_vendor_write and the two of an index; libdhcpopt_writer.a has the two that
- * write alone, and libdhcpopt_index.a has dhcpopt_index_build and dhcpopt_index_lookup alone. So a meter that only reads links the
- * reader's archive alone. docs/C-API.md has an example of each call.
+ * libdhcpopt_writer.a has dhcpopt_write, dhcpopt_vendor_write and the calls on grouped sheets (dhcpopt_check_grouped, dhcpopt_choose,
+ * dhcpopt_group, dhcpopt_ungroup), libdhcpopt_index.a has dhcpopt_index_build and dhcpopt_index_lookup, and libdhcpopt_reader.a every
+ * other call, so a meter that only reads links the reader's archive alone. docs/C-API.md has an example of each call.
  *
  * For every call:
  * - A message or sheet is a pointer and its number of bytes, an index a pointer and its count of numbers. The pointer is never null, also
@@ -30,9 +30,10 @@
  * 3.1: a text with a byte over 127, or with a zero before a byte that is not 0, is broken (9), and the writer refuses it.
  * 3.2: dhcpopt_vendor_records and dhcpopt_vendor_write, for what is inside option 43 (RFC 2132, 8.4).
  * 3.3: dhcpopt_index_build and dhcpopt_index_lookup: an index of a message, for many lookups of one message.
+ * 3.4: one sheet for all devices: dhcpopt_check_grouped, dhcpopt_choose, dhcpopt_group and dhcpopt_ungroup.
  */
 #define DHCPOPT_VERSION_MAJOR 3
-#define DHCPOPT_VERSION_MINOR 3
+#define DHCPOPT_VERSION_MINOR 4
 #define DHCPOPT_VERSION (100 * DHCPOPT_VERSION_MAJOR + DHCPOPT_VERSION_MINOR)
 
 #include <stddef.h>
@@ -65,9 +66,12 @@ enum dhcpopt_limit {
     DHCPOPT_LONGEST_MESSAGE = 1472, /* so it is enough for dhcpopt_copy too */
     DHCPOPT_LONGEST_PIECE = 255,    /* of an option's data in a message */
     DHCPOPT_LONGEST_RECORD = 1024,  /* of data in a record that dhcpopt_write takes */
-    DHCPOPT_LONGEST_SHEET = 4096, /* that dhcpopt_write and dhcpopt_vendor_write take. The records of a message are always shorter */
-    DHCPOPT_LONGEST_ITEM = 255,   /* of data in a record that dhcpopt_vendor_write takes */
-    DHCPOPT_LONGEST_VENDOR = 255  /* that dhcpopt_vendor_write gives */
+    DHCPOPT_LONGEST_SHEET = 4096,   /* that dhcpopt_write and dhcpopt_vendor_write take. The records of a message are always shorter; what is
+                                       chosen from a grouped file is never longer */
+    DHCPOPT_LONGEST_ITEM = 255,     /* of data in a record that dhcpopt_vendor_write takes */
+    DHCPOPT_LONGEST_VENDOR = 255,   /* that dhcpopt_vendor_write gives */
+    DHCPOPT_LONGEST_GROUPED = 4100, /* a grouped file */
+    DHCPOPT_DEEPEST_GROUP = 4       /* groups within groups, the outermost counted */
 };
 
 /* An index of a message: a number for each code. */
@@ -119,6 +123,7 @@ enum dhcpopt_kind {
  * Why a call is refused, and after the colon what its place then is. Reading gives 1 to 7, 10 and 11, with an
  * index also 18 and 19; writing gives 1, 2 and 7 to 16.
  * dhcpopt_vendor_records gives 11 and 17, dhcpopt_vendor_write 10 to 13 and 16.
+ * The calls on grouped sheets give 10, 11, 12, 16 and 20 to 22.
  * In reading 8 and 9 refuse nothing: they say why an option is broken, in a lookup's answer of DHCPOPT_STATUS_BROKEN.
  */
 enum dhcpopt_refusal {
@@ -138,10 +143,14 @@ enum dhcpopt_refusal {
     DHCPOPT_REFUSED_RECORD_TOO_LONG = 13,    /* record of more than 1,024 data bytes, for items more than 255: the tag byte */
     DHCPOPT_REFUSED_ROUTER_BEFORE_MASK = 14, /* tag 3 stands before tag 1: the byte of tag 3 */
     DHCPOPT_REFUSED_BAD_PERMISSION = 15,     /* permission over 3: 0 */
-    DHCPOPT_REFUSED_SHEET_TOO_LONG = 16,     /* sheet over 4,096 bytes: its length */
+    DHCPOPT_REFUSED_SHEET_TOO_LONG = 16,     /* sheet over 4,096 bytes, grouped file over 4,100: its length */
     DHCPOPT_REFUSED_ITEM_TRUNCATED = 17,     /* length byte or data of an item beyond the bytes: its code byte */
     DHCPOPT_REFUSED_BAD_INDEX_COUNT = 18,    /* an index not of 256 numbers: their count */
-    DHCPOPT_REFUSED_BAD_INDEX_ENTRY = 19     /* an entry of an index that does not fit the message: the entry */
+    DHCPOPT_REFUSED_BAD_INDEX_ENTRY = 19,    /* an entry of an index that does not fit the message: the entry */
+    DHCPOPT_REFUSED_BAD_GROUP = 20,          /* grouped file: a group or record beyond what is around it, or a group too short for its
+                                                name: the tag byte. Empty, or a first tag other than 0: 0. Bytes behind: the first */
+    DHCPOPT_REFUSED_TOO_DEEP = 21,           /* grouped file, a group of a fifth depth: the tag byte */
+    DHCPOPT_REFUSED_NO_WAY_BACK = 22         /* dhcpopt_ungroup, a name or a group inside: 0 */
 };
 
 /* Permissions to overload, and the plans that the writer may then use: the value of option 52, or 0 without it. */
@@ -189,7 +198,7 @@ typedef struct {
     size_t place;
 } dhcpopt_codes;
 
-/* What dhcpopt_records, dhcpopt_copy, dhcpopt_vendor_records, dhcpopt_vendor_write or dhcpopt_index_build gave: size bytes, or a refusal. */
+/* What a call that fills out gave: size bytes, or a refusal. */
 typedef struct {
     uint32_t refusal; /* DHCPOPT_NOT_REFUSED, or size is 0 */
     size_t size;
@@ -202,6 +211,12 @@ typedef struct {
     uint32_t plan;
     size_t place;
 } dhcpopt_wrote;
+
+/* What dhcpopt_check_grouped found: no fault, or a refusal. */
+typedef struct {
+    uint32_t refusal; /* DHCPOPT_NOT_REFUSED, or place is where */
+    size_t place;
+} dhcpopt_checked;
 
 /*
  * Looks up a code. k0 to k3 are the set of known codes: code c is bit c % 64 of word c / 64.
@@ -301,6 +316,36 @@ dhcpopt_filled dhcpopt_index_build(const uint8_t *message, size_t size, uint16_t
 dhcpopt_answer dhcpopt_index_lookup(const uint8_t *message, size_t size, const uint16_t *index, size_t count, uint64_t k0, uint64_t k1,
                                     uint64_t k2, uint64_t k3, uint8_t code);
 
+/*
+ * A grouped file is one sheet for all devices: exactly one group. A group is tag 0, length (2 bytes, the high byte first), one byte n,
+ * n bytes of class name, then records and groups mixed, end to end; the length counts n, name and contents. Groups stand at most four
+ * deep, the outermost counted.
+ * Checks such a file. Refused, in this order: 16 at size; the first faulty record or group in written order, in every group, at its tag
+ * byte: 20, 10 (tag 52 or 255), 21; 20 at 0 for an empty file or a first tag other than 0; 20 at the first byte behind the outermost group.
+ */
+dhcpopt_checked dhcpopt_check_grouped(const uint8_t *file, size_t size);
+
+/*
+ * Chooses for a class: the records of every group whose own name and those of all groups around it are empty or equal the class, in
+ * written order, as a sheet in out. Nothing of another group is entered. The class is any bytes, perhaps none.
+ * Bytes of out after the given ones stay as they were. A refusal leaves all of out as it was.
+ * Refused as by dhcpopt_check_grouped, then by 11 at room. A room of DHCPOPT_LONGEST_SHEET is always enough.
+ */
+dhcpopt_filled dhcpopt_choose(const uint8_t *file, size_t size, const uint8_t *class_name, size_t class_size, uint8_t *out, size_t room);
+
+/*
+ * Moves a sheet into a nameless outermost group: four bytes, and the sheet behind them. An empty sheet becomes 00 00 01 00.
+ * Refused by 16 at sheet_size (over 4,096 bytes); by the first faulty record at its tag byte: 12, 10 (tag 0, 52 or 255); then by 11 at
+ * room. Nothing else of a record is judged. A room of DHCPOPT_LONGEST_GROUPED is always enough.
+ */
+dhcpopt_filled dhcpopt_group(const uint8_t *sheet, size_t sheet_size, uint8_t *out, size_t room);
+
+/*
+ * Takes the sheet back out of a file that is one nameless group with no group inside: what dhcpopt_group moved comes back byte for byte.
+ * Refused as by dhcpopt_check_grouped, then by 22 at 0, then by 11 at room. A room of DHCPOPT_LONGEST_SHEET is always enough.
+ */
+dhcpopt_filled dhcpopt_ungroup(const uint8_t *file, size_t size, uint8_t *out, size_t room);
+
 /* A set of known codes. Begin with {{0, 0, 0, 0}} or with dhcpopt_known_all. */
 typedef struct {
     uint64_t words[4];
@@ -381,6 +426,9 @@ DHCPOPT_ASSERT(sizeof(dhcpopt_filled) == 24);
 DHCPOPT_MEMBER(dhcpopt_filled, refusal, 0, 4);
 DHCPOPT_MEMBER(dhcpopt_filled, size, 8, 8);
 DHCPOPT_MEMBER(dhcpopt_filled, place, 16, 8);
+DHCPOPT_ASSERT(sizeof(dhcpopt_checked) == 16);
+DHCPOPT_MEMBER(dhcpopt_checked, refusal, 0, 4);
+DHCPOPT_MEMBER(dhcpopt_checked, place, 8, 8);
 DHCPOPT_ASSERT(sizeof(dhcpopt_wrote) == 16);
 DHCPOPT_MEMBER(dhcpopt_wrote, refusal, 0, 4);
 DHCPOPT_MEMBER(dhcpopt_wrote, plan, 4, 4);

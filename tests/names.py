@@ -96,7 +96,7 @@ def cases_of(text):
 def reasons():
     """The reason of each case that stands one by one in a make.py; of one that is tried with every permission, without it."""
     sys.dont_write_bytecode = True
-    for name in ("vectors", "sheets", "items"):
+    for name in ("vectors", "sheets", "items", "grouped"):
         spec = importlib.util.spec_from_file_location(name, ROOT / "tests" / name / "make.py")
         module = importlib.util.module_from_spec(spec)
         spec.loader.exec_module(module)

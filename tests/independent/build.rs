@@ -7,7 +7,8 @@ use std::{env, fs, path::Path};
 include!("build/variants.rs");
 
 /// The files of src/rules that are copied, each with those it is used by.
-const FILES: [(&str, &[&str]); 5] = [
+const FILES: [(&str, &[&str]); 6] = [
+    ("groups.rs", &["groups.rs"]),
     ("kinds.rs", &["kinds.rs", "reading.rs", "writing.rs"]),
     ("reading.rs", &["reading.rs"]),
     ("index.rs", &["index.rs"]),

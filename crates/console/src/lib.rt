@@ -82,3 +82,14 @@ pub fn sum(s: &[u8]) -> u64
     }
     t
 }
+
+// Fills buf with first, first + 1 and so on, modulo 256, so that a byte that is moved or changed shows.
+pub fn fill(buf: &mut [u8], first: u8) {
+    let mut x = first;
+    let mut i: usize = 0;
+    while i < buf.len() {
+        buf[i] = x;
+        x = std::num::wrapping_add_u8(x, 1);
+        i = i + 1;
+    }
+}

@@ -1,11 +1,14 @@
-// The writer for C (document 01: "calls these on plain numbers and byte slices"): a library of its own, so that who only reads links no byte of it.
+// The writer and the calls on grouped sheets for C (document 01: "calls these on plain numbers and byte slices"): a library of its own, so that who only reads links no byte of it.
 ghost use mathlib.Core.Path.{_≡_};
 ghost use Rattle.options.specs.Kinds.{kinds};
 ghost use Rattle.options.specs.Writing as options;
 ghost use Rattle.options.specs.Vendor.{vendorWrite};
+ghost use Rattle.options.specs.Grouped as grouped;
+ghost use Rattle.groups.specs.Check.{plainChecked};
 ghost use Rattle.filled.specs.Plain.{plainFilled};
 ghost use Rattle.dhcpopt_writer.specs.Plain.{plainWrote, plainOf};
 use filled::PlainFilled;
+use groups::PlainChecked;
 use plan::Choice;
 
 // refusal: 0 where the sheet was written, and plan is the plan used; else its number, with its place, and the buffer is as it was.
@@ -47,4 +50,36 @@ pub extern "C" fn dhcpopt_vendor_write(s: &[u8], out: &mut [u8]) -> PlainFilled
     ensures { λ r. ⌜ (r ≡ plainFilled (vendorWrite (now (s .entry)) (now (out .entry)) .answer)) × (now (out .exit) ≡ vendorWrite (now (s .entry)) (now (out .entry)) .buffer) ⌝ }
 {
     filled::plain(vendor_writer::write(s, out))
+}
+
+// Checks a grouped file (document 02, request 08).
+#[no_mangle]
+pub extern "C" fn dhcpopt_check_grouped(f: &[u8]) -> PlainChecked
+    ensures { λ r. ⌜ r ≡ plainChecked (grouped.check (now (f .entry))) ⌝ }
+{
+    groups::plain(groups::check(f))
+}
+
+// Chooses from a grouped file for a class: the records of the groups reached, at the front of the sheet out.
+#[no_mangle]
+pub extern "C" fn dhcpopt_choose(f: &[u8], class: &[u8], out: &mut [u8]) -> PlainFilled
+    ensures { λ r. ⌜ (r ≡ plainFilled (grouped.choice (now (f .entry)) (now (class .entry)) (now (out .entry)) .answer)) × (now (out .exit) ≡ grouped.choice (now (f .entry)) (now (class .entry)) (now (out .entry)) .buffer) ⌝ }
+{
+    filled::plain(choice::choose(f, class, out))
+}
+
+// Moves an old sheet into a nameless outermost group, at the front of the buffer out.
+#[no_mangle]
+pub extern "C" fn dhcpopt_group(s: &[u8], out: &mut [u8]) -> PlainFilled
+    ensures { λ r. ⌜ (r ≡ plainFilled (grouped.move (now (s .entry)) (now (out .entry)) .answer)) × (now (out .exit) ≡ grouped.move (now (s .entry)) (now (out .entry)) .buffer) ⌝ }
+{
+    filled::plain(regroup::group(s, out))
+}
+
+// Takes the sheet back out of a grouped file, at the front of the sheet out.
+#[no_mangle]
+pub extern "C" fn dhcpopt_ungroup(f: &[u8], out: &mut [u8]) -> PlainFilled
+    ensures { λ r. ⌜ (r ≡ plainFilled (grouped.goBack (now (f .entry)) (now (out .entry)) .answer)) × (now (out .exit) ≡ grouped.goBack (now (f .entry)) (now (out .entry)) .buffer) ⌝ }
+{
+    filled::plain(regroup::ungroup(f, out))
 }

@@ -8,7 +8,10 @@ use lib.Dec.{ltb}
 use lib.ListN.{length, drop}
 use borrow.Author.Tests.{ne-eqb}
 use Rattle.options.specs.Answers as asked
-use Rattle.filled.specs.Plain.{plainFilled, givenFrom, Kept}
+use Rattle.filled.specs.Plain.{plainFilled, givenFrom, FilledByCase, Kept}
+
+pub filled-by-case : FilledByCase
+filled-by-case n p = (refl, refl)
 
 pub declined-kept : (n p : ℕ) (old : List ℕ) → (n ≡ 0 → ⊥) → Kept (asked.unfilled n p old)
 declined-kept n p old h = rw (ne-eqb n 0 h)

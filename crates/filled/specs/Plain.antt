@@ -15,6 +15,10 @@ plainFilled (asked.declined n p) = record { refusal = n; size = 0; place = p }
 abbrev pub givenFrom : PlainFilled → asked.Given
 givenFrom f = cond (eqb (f .refusal) 0) (asked.given (f .size)) (asked.declined (f .refusal) (f .place))
 
+-- each case with its own numbers, and 0 for what it does not give
+abbrev pub FilledByCase : Type 0
+FilledByCase = (n p : ℕ) → (plainFilled (asked.given n) ≡ record { refusal = 0; size = n; place = 0 }) × (plainFilled (asked.declined n p) ≡ record { refusal = n; size = 0; place = p })
+
 -- nothing of the answer is lost
 abbrev pub Kept : asked.Filled → Type 0
 Kept w = givenFrom (plainFilled (w .answer)) ≡ w .answer

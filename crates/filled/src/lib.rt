@@ -1,6 +1,7 @@
 // What a call gives that fills a lent buffer (document 02, request 02: "it answers how many bytes it gave").
 ghost use mathlib.Core.Path.{_≡_};
-ghost use Rattle.filled.specs.Fill.{givenOf};
+ghost use Rattle.options.specs.Answers.{filledWith};
+ghost use Rattle.filled.specs.Fill.{givenOf, Fills};
 ghost use Rattle.filled.specs.Plain.{plainFilled};
 
 // How many bytes of the buffer were given, or a refusal.
@@ -32,4 +33,19 @@ pub fn plain(g: Given) -> PlainFilled
             place,
         },
     }
+}
+
+// Copies xs to the front of a lent buffer where it has room, and gives their number; else 11, and no byte.
+pub fn give(xs: &[u8], out: &mut [u8]) -> Given
+    ensures { λ r. ⌜ Fills (filledWith (now (xs .entry)) (now (out .entry))) r (now (out .exit)) ⌝ }
+{
+    let room = out.len();
+    if room < xs.len() {
+        return Given::Refused {
+            number: 11,
+            place: room,
+        };
+    }
+    buffer::copy(out, xs);
+    Given::Bytes(xs.len())
 }

@@ -4,17 +4,6 @@ use console::word;
 use filled::PlainFilled;
 use message::part;
 
-// Fills buf with first, first + 1 and so on, modulo 256, so that a byte that is moved or changed shows.
-fn fill(buf: &mut [u8], first: u8) {
-    let mut x = first;
-    let mut i: usize = 0;
-    while i < buf.len() {
-        buf[i] = x;
-        x = std::num::wrapping_add_u8(x, 1);
-        i = i + 1;
-    }
-}
-
 // Whether a and b have the same bytes.
 fn same(a: &[u8], b: &[u8]) -> bool {
     if a.len() != b.len() {
@@ -86,7 +75,7 @@ fn case(call: u8, bytes: &[u8], out: &mut [u8]) {
 // Reads as many bytes as `bytes` has and prints their lines.
 fn body(bytes: &mut [u8], out: &mut [u8], first: u8, call: u8) {
     let n = io::read_full(0, bytes);
-    fill(out, first);
+    console::fill(out, first);
     case(call, &bytes[..n], out);
 }
 

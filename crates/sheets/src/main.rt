@@ -1,17 +1,6 @@
 // Reads settings sheets from standard input, writes each into a buffer, and prints what was written (tests/sheets/README.md).
 mod print;
 
-// Fills buf with first, first + 1 and so on, modulo 256, so that a byte that is moved or changed shows.
-fn fill(buf: &mut [u8], first: u8) {
-    let mut x = first;
-    let mut i: usize = 0;
-    while i < buf.len() {
-        buf[i] = x;
-        x = std::num::wrapping_add_u8(x, 1);
-        i = i + 1;
-    }
-}
-
 // The lines of one sheet.
 fn one(sheet: &[u8], buf: &mut [u8], permission: u8) {
     let w = dhcpopt_writer::dhcpopt_write(sheet, buf, permission);
@@ -26,7 +15,7 @@ fn one(sheet: &[u8], buf: &mut [u8], permission: u8) {
 // Reads a sheet as long as `sheet` and prints its lines.
 fn body(sheet: &mut [u8], buf: &mut [u8], first: u8, permission: u8) {
     let n = io::read_full(0, sheet);
-    fill(buf, first);
+    console::fill(buf, first);
     one(&sheet[..n], buf, permission);
 }
 

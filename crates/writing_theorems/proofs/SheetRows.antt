@@ -26,7 +26,7 @@ use Rattle.theorems.proofs.Sheets.{From, here, past, from-le, begins-from, reco
 use Rattle.writing_theorems.proofs.SheetView.{head, tail, nothing, rec, whole-or-cut}
 use Rattle.writing_theorems.proofs.Ruled.{nth-some, ruled-correct}
 
-from-begins : {s : List ℕ} {k i : ℕ} → RecordBegins s i → From s k i → RecordBegins s k
+pub from-begins : {s : List ℕ} {k i : ℕ} → RecordBegins s i → From s k i → RecordBegins s k
 from-begins {s} b (here e) = subst (λ (x : ℕ). RecordBegins s x) e b
 from-begins b (past o g) = from-begins (after-record b o) g
 
@@ -86,10 +86,10 @@ listed-met {s} (behind {seen = seen} {i = i} {c = x} {d = d} r o) j c e l b = go
 
 -- ---- the writer's rules and the rows of the table
 
-abbrev Bad : ℕ → Type 0
+abbrev pub Bad : ℕ → Type 0
 Bad c = (c ≡ 0) ⊎ ((c ≡ 52) ⊎ (c ≡ 255))
 
-bad-tag : (c : ℕ) → among c (0 ∷ 52 ∷ 255 ∷ []) ≡ true → Bad c
+pub bad-tag : (c : ℕ) → among c (0 ∷ 52 ∷ 255 ∷ []) ≡ true → Bad c
 bad-tag c e = go (eqb c 0) (eqb c 52) (eqb c 255) refl refl refl e
   where
     go : (a b d : Bool) → eqb c 0 ≡ a → eqb c 52 ≡ b → eqb c 255 ≡ d → either a (either b (either d false)) ≡ true → Bad c
@@ -98,7 +98,7 @@ bad-tag c e = go (eqb c 0) (eqb c 52) (eqb c 255) refl refl refl e
     go false false true x y v z = inr (inr (eqb-true c 255 v))
     go false false false x y v z = clash (cc)
 
-tag-bad : (c : ℕ) → Bad c → among c (0 ∷ 52 ∷ 255 ∷ []) ≡ true
+pub tag-bad : (c : ℕ) → Bad c → among c (0 ∷ 52 ∷ 255 ∷ []) ≡ true
 tag-bad c (inl z) = rw z
 tag-bad c (inr (inl z)) = rw z
 tag-bad c (inr (inr z)) = rw z

@@ -28,7 +28,7 @@ abbrev pub recordHere : List ℕ → ℕ → Rec
 recordHere s at = rec (getD s at 0) (take (sizeAt s at) (drop (at + 3) s))
 
 -- the three bytes of a record's head
-head3 : (s : List ℕ) (at : ℕ) → at + 3 ≤ length s → drop at s ≡ getD s at 0 ∷ getD s (at + 1) 0 ∷ getD s (at + 2) 0 ∷ drop (at + 3) s
+pub head3 : (s : List ℕ) (at : ℕ) → at + 3 ≤ length s → drop at s ≡ getD s at 0 ∷ getD s (at + 1) 0 ∷ getD s (at + 2) 0 ∷ drop (at + 3) s
 head3 s at h =
     let a : suc at ≡ at + 1 = omega arith in
     let b : suc (suc at) ≡ at + 2 = omega arith in

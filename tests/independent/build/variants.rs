@@ -17,6 +17,56 @@ macro_rules! variant {
 }
 
 const VARIANTS: &[Variant] = &[
+    // Grouped sheets.
+    variant!("file of 4,100 refused", "groups.rs", "file.len() > LONGEST_FILE", "file.len() >= LONGEST_FILE"),
+    variant!("sheet of 4,096 not moved", "groups.rs", "sheet.len() > LONGEST_SHEET", "sheet.len() >= LONGEST_SHEET"),
+    variant!("a fifth depth taken", "groups.rs", "DEEPEST: usize = 4", "DEEPEST: usize = 5"),
+    variant!("a fourth depth refused", "groups.rs", "DEEPEST: usize = 4", "DEEPEST: usize = 3"),
+    variant!("other classes entered", "groups.rs", "reached && (name.is_empty() || name == self.class)", "reached"),
+    variant!(
+        "a name compared by its length alone",
+        "groups.rs",
+        "name == self.class",
+        "name.len() == self.class.len()",
+    ),
+    variant!(
+        "a name compared to the class's length",
+        "groups.rs",
+        "name == self.class",
+        "name.starts_with(self.class)",
+    ),
+    variant!(
+        "the outermost name ignored",
+        "groups.rs",
+        "reached && (name.is_empty()",
+        "reached && (depth == 1 || name.is_empty()",
+    ),
+    variant!(
+        "a group of the class reached in another class's",
+        "groups.rs",
+        "let reached = reached && (",
+        "let reached = (",
+    ),
+    variant!(
+        "a nested group's records out of order",
+        "groups.rs",
+        "_ if reached => self.sheet.extend_from_slice(&file[at..next]),",
+        "_ if reached && depth > 1 => drop(self.sheet.splice(..0, file[at..next].iter().copied())),
+                _ if reached => self.sheet.extend_from_slice(&file[at..next]),",
+    ),
+    variant!("groups that are not entered are not checked", "groups.rs", "52 | 255 => return", "52 | 255 if reached => return"),
+    variant!("tag 255 taken", "groups.rs", "52 | 255 => return", "52 => return"),
+    variant!("tag 52 taken", "groups.rs", "52 | 255 => return", "255 => return"),
+    variant!("trailing bytes taken", "groups.rs", "if end < file.len() {", "if end + 1 < file.len() {"),
+    variant!("trailing bytes at 0", "groups.rs", "return refuse(20, end);", "return refuse(20, 0);"),
+    variant!("21 before 20", "groups.rs", "if rest.len() < n {", "if depth > DEEPEST {\n            return refuse(21, tag);\n        }\n        if rest.len() < n {"),
+    variant!("a way back for a named group", "groups.rs", "met.named || met.groups > 1", "met.groups > 1"),
+    variant!("a way back with a group inside", "groups.rs", "met.named || met.groups > 1", "met.named"),
+    variant!("22 at 4", "groups.rs", "refuse(22, 0)", "refuse(22, 4)"),
+    variant!("11 before 22", "groups.rs", "    if met.named || met.groups > 1 {", "    give(&file[4..], lent)?;\n    if met.named || met.groups > 1 {"),
+    variant!("a length without n", "groups.rs", "let length = sheet.len() + 1;", "let length = sheet.len();"),
+    variant!("tag 0 moves", "groups.rs", "0 | 52 | 255)", "52 | 255)"),
+    variant!("10 before 12", "groups.rs", "let Some(next) = end_of(sheet, at, sheet.len()) else { return refuse(12, at) };\n        if matches!(sheet[at], 0 | 52 | 255) {\n            return refuse(10, at);\n        }", "if matches!(sheet[at], 0 | 52 | 255) {\n            return refuse(10, at);\n        }\n        let Some(next) = end_of(sheet, at, sheet.len()) else { return refuse(12, at) };"),
     // Reading: the frame.
     variant!("message of 240 refused", "reading.rs", "length < OPTIONS", "length <= OPTIONS"),
     variant!("message of 1472 refused", "reading.rs", "length > LONGEST", "length >= LONGEST"),

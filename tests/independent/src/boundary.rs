@@ -2,7 +2,7 @@
 //! signatures, so that single calls of it can be counted.
 
 use crate::rules::answers::{Codes, Content, Lookup, Origin, Part, Refusal, RollCall, Several};
-use crate::rules::{index, reading, vendor, writing};
+use crate::rules::{groups, index, reading, vendor, writing};
 use std::slice;
 
 /// status: 0 absent, 1 unknown, 2 refused, 3 a number, 4 a part, 5 broken.
@@ -54,6 +54,13 @@ pub struct Present {
 pub struct Filled {
     pub refusal: u32,
     pub size: usize,
+    pub place: usize,
+}
+
+#[repr(C)]
+#[derive(Clone, Copy, PartialEq, Eq, Debug, Default)]
+pub struct Checked {
+    pub refusal: u32,
     pub place: usize,
 }
 
@@ -133,6 +140,15 @@ impl From<Result<usize, Refusal>> for Filled {
         match result {
             Ok(size) => Filled { refusal: 0, size, place: 0 },
             Err(r) => Filled { refusal: r.number, size: 0, place: r.place },
+        }
+    }
+}
+
+impl From<Result<(), Refusal>> for Checked {
+    fn from(result: Result<(), Refusal>) -> Checked {
+        match result {
+            Ok(()) => Checked { refusal: 0, place: 0 },
+            Err(r) => Checked { refusal: r.number, place: r.place },
         }
     }
 }
@@ -316,4 +332,52 @@ pub unsafe extern "C" fn independent_vendor_write(
     room: usize,
 ) -> Filled {
     vendor::write(lent(sheet, n), lent_mut(out, room)).into()
+}
+
+/// # Safety
+/// `file` points to `n` readable bytes.
+#[no_mangle]
+pub unsafe extern "C" fn independent_check_grouped(file: *const u8, n: usize) -> Checked {
+    groups::check(lent(file, n)).into()
+}
+
+/// # Safety
+/// `file` points to `n` readable bytes, `class` to `letters`, `out` to `room`
+/// bytes lent to this call alone.
+#[no_mangle]
+pub unsafe extern "C" fn independent_choose(
+    file: *const u8,
+    n: usize,
+    class: *const u8,
+    letters: usize,
+    out: *mut u8,
+    room: usize,
+) -> Filled {
+    groups::choose(lent(file, n), lent(class, letters), lent_mut(out, room)).into()
+}
+
+/// # Safety
+/// `sheet` points to `n` readable bytes, `out` to `room` bytes lent to this call
+/// alone.
+#[no_mangle]
+pub unsafe extern "C" fn independent_group(
+    sheet: *const u8,
+    n: usize,
+    out: *mut u8,
+    room: usize,
+) -> Filled {
+    groups::group(lent(sheet, n), lent_mut(out, room)).into()
+}
+
+/// # Safety
+/// `file` points to `n` readable bytes, `out` to `room` bytes lent to this call
+/// alone.
+#[no_mangle]
+pub unsafe extern "C" fn independent_ungroup(
+    file: *const u8,
+    n: usize,
+    out: *mut u8,
+    room: usize,
+) -> Filled {
+    groups::ungroup(lent(file, n), lent_mut(out, room)).into()
 }

@@ -15,12 +15,14 @@ const SHORT_CASES: u64 = 525_000;
 const LONG_FIRST_SEED: u64 = 1001;
 const LONG_CASES: u64 = 1_000_000;
 const PIECES_FIRST_SEED: u64 = 2001;
+const GROUPED_FIRST_SEED: u64 = 3001;
 
 const USAGE: &str = "\
 usage: independent [MODE]
   short            the default: all edges, 2,100,000 generated cases, each answer often enough
   long N           N million messages and sheets of other seeds
   pieces N         N million messages, each with an option in pieces over two fields or three
+  grouped N        N million grouped files, each with a class, and as many old sheets
   captures [DIR]   the files *.bin of a folder (../vectors/captures)
   broken           wrong variants and wrong subjects, each of which has to be detected
   case SEED INDEX  one generated case";
@@ -32,6 +34,7 @@ fn main() {
         [] | ["short"] => short(),
         ["long", n] => n.parse().map_or_else(|_| usage(), long),
         ["pieces", n] => n.parse().map_or_else(|_| usage(), pieces),
+        ["grouped", n] => n.parse().map_or_else(|_| usage(), grouped),
         ["captures"] => captured(Path::new("../vectors/captures")),
         ["captures", folder] => captured(Path::new(folder)),
         ["broken"] => broken::run(),
@@ -97,6 +100,23 @@ fn pieces(millions: u64) -> i32 {
     println!("{:.1} seconds", start.elapsed().as_secs_f64());
     run.counts.print();
     end(&run)
+}
+
+fn grouped(millions: u64) -> i32 {
+    let mut run = new_run();
+    let start = Instant::now();
+    for seed in GROUPED_FIRST_SEED..GROUPED_FIRST_SEED + millions {
+        println!("seed {seed}, cases 0 to {}", LONG_CASES - 1);
+        for index in 0..LONG_CASES {
+            run.grouped(seed, index);
+            if run.over() {
+                break;
+            }
+        }
+    }
+    println!("{:.1} seconds", start.elapsed().as_secs_f64());
+    println!("{} million files, {} differences", millions, run.differences);
+    i32::from(run.differences > 0)
 }
 
 fn cases(run: &mut Run, seeds: impl IntoIterator<Item = u64>, count: u64) {

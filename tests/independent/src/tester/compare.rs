@@ -7,8 +7,8 @@ use super::lent::Lent;
 use super::rng::Rng;
 use super::sheets::Needs;
 use super::sides::{Subject, Yardstick};
-use super::{messages, sheets, vendor};
-use independent::boundary::Answer;
+use super::{groups, messages, sheets, vendor};
+use independent::boundary::{Answer, Filled};
 use independent::rules::answers::Codes;
 use std::fmt::Debug;
 
@@ -101,6 +101,67 @@ impl Run {
             }
         }
         self.bytes = bytes;
+        if index.is_multiple_of(8) {
+            self.grouped(seed, index);
+        }
+    }
+
+    /// One generated file with a class, and one old sheet.
+    pub fn grouped(&mut self, seed: u64, index: u64) {
+        self.case =
+            if self.quiet { String::new() } else { format!("grouped, seed {seed} index {index}") };
+        let mut rng = Rng::of_case(seed ^ 0x6702, index);
+        let mut bytes = std::mem::take(&mut self.bytes);
+        let mut class = Vec::new();
+        groups::class(&mut rng, &mut class);
+        groups::file(&mut rng, &mut bytes);
+        self.hold_input(&mut rng, &bytes);
+        let theirs = unsafe { (self.subject.check)(self.input.pointer(), self.input.len()) };
+        let ours = (self.yardstick.check)(self.input.middle());
+        self.equal(|| "check of a grouped file".to_string(), &theirs, &ours);
+        let whole = (self.yardstick.choose)(&bytes, &class, &mut [0; 5000]).size;
+        for room in [whole, whole.saturating_sub(1), whole + rng.below(30)] {
+            let (yours, mine) = (self.subject.choose, self.yardstick.choose);
+            let name = || format!("choice for {} into {room} bytes", hex(&class));
+            self.fill(
+                &mut rng,
+                room,
+                name,
+                |m, n, out, room| unsafe { yours(m, n, class.as_ptr(), class.len(), out, room) },
+                |m, out| mine(m, &class, out),
+            );
+        }
+        let room = bytes.len().saturating_sub(rng.below(6));
+        let (yours, mine) = (self.subject.ungroup, self.yardstick.ungroup);
+        let name = || format!("way back into {room} bytes");
+        self.fill(&mut rng, room, name, |m, n, out, room| unsafe { yours(m, n, out, room) }, mine);
+        self.input_unchanged();
+        groups::sheet(&mut rng, &mut bytes);
+        self.hold_input(&mut rng, &bytes);
+        let room = (bytes.len() + 6).saturating_sub(rng.below(5));
+        let (yours, mine) = (self.subject.group, self.yardstick.group);
+        let name = || format!("move into {room} bytes");
+        self.fill(&mut rng, room, name, |m, n, out, room| unsafe { yours(m, n, out, room) }, mine);
+        self.input_unchanged();
+        self.bytes = bytes;
+    }
+
+    /// A call that fills lent bytes from the input.
+    fn fill(
+        &mut self,
+        rng: &mut Rng,
+        room: usize,
+        name: impl Fn() -> String,
+        yours: impl Fn(*const u8, usize, *mut u8, usize) -> Filled,
+        mine: impl Fn(&[u8], &mut [u8]) -> Filled,
+    ) {
+        self.theirs.any(rng, room);
+        self.ours.copy(&self.theirs);
+        let (m, n, out) = (self.input.pointer(), self.input.len(), self.theirs.pointer());
+        let theirs = yours(m, n, out, room);
+        let ours = mine(self.input.middle(), self.ours.middle_mut());
+        self.equal(&name, &theirs, &ours);
+        self.equal_lent(&name);
     }
 
     /// One generated message with an option in pieces over two fields or three.

@@ -1,7 +1,7 @@
 //! The library under test: three static archives.
 
 use super::sides::Subject;
-use independent::boundary::{Address, Answer, Extent, Filled, Present, Wrote};
+use independent::boundary::{Address, Answer, Checked, Extent, Filled, Present, Wrote};
 
 #[link(name = "dhcpopt_reader", kind = "static")]
 extern "C" {
@@ -28,6 +28,17 @@ extern "C" {
 extern "C" {
     fn dhcpopt_write(sheet: *const u8, n: usize, m: *mut u8, room: usize, permission: u8) -> Wrote;
     fn dhcpopt_vendor_write(sheet: *const u8, n: usize, out: *mut u8, room: usize) -> Filled;
+    fn dhcpopt_check_grouped(file: *const u8, n: usize) -> Checked;
+    fn dhcpopt_choose(
+        file: *const u8,
+        n: usize,
+        class: *const u8,
+        letters: usize,
+        out: *mut u8,
+        room: usize,
+    ) -> Filled;
+    fn dhcpopt_group(sheet: *const u8, n: usize, out: *mut u8, room: usize) -> Filled;
+    fn dhcpopt_ungroup(file: *const u8, n: usize, out: *mut u8, room: usize) -> Filled;
 }
 
 #[link(name = "dhcpopt_index", kind = "static")]
@@ -60,5 +71,9 @@ pub fn library() -> Subject {
         vendor_write: dhcpopt_vendor_write,
         index_build: dhcpopt_index_build,
         index_lookup: dhcpopt_index_lookup,
+        check: dhcpopt_check_grouped,
+        choose: dhcpopt_choose,
+        group: dhcpopt_group,
+        ungroup: dhcpopt_ungroup,
     }
 }

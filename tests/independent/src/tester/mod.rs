@@ -6,6 +6,7 @@ pub mod compare;
 mod counts;
 pub mod edges;
 mod index;
+mod groups;
 mod lent;
 pub mod library;
 mod messages;

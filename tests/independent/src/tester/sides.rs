@@ -1,7 +1,7 @@
 //! The two sides that are compared: the library under test, by its C
 //! functions, and the yardstick, by safe ones.
 
-use independent::boundary::{Address, Answer, Extent, Filled, Present, Wrote};
+use independent::boundary::{Address, Answer, Checked, Extent, Filled, Present, Wrote};
 use independent::rules::answers::Codes;
 
 type Asked = unsafe extern "C" fn(*const u8, usize, u64, u64, u64, u64, u8) -> Answer;
@@ -9,6 +9,8 @@ type AskedText = unsafe extern "C" fn(*const u8, usize, u64, u64, u64, u64, u8) 
 
 type AskedThrough =
     unsafe extern "C" fn(*const u8, usize, *const u16, usize, u64, u64, u64, u64, u8) -> Answer;
+
+type Chosen = unsafe extern "C" fn(*const u8, usize, *const u8, usize, *mut u8, usize) -> Filled;
 
 /// C functions that are to keep document 01.
 #[derive(Clone, Copy)]
@@ -25,6 +27,10 @@ pub struct Subject {
     pub vendor_write: unsafe extern "C" fn(*const u8, usize, *mut u8, usize) -> Filled,
     pub index_build: unsafe extern "C" fn(*const u8, usize, *mut u16, usize) -> Filled,
     pub index_lookup: AskedThrough,
+    pub check: unsafe extern "C" fn(*const u8, usize) -> Checked,
+    pub choose: Chosen,
+    pub group: unsafe extern "C" fn(*const u8, usize, *mut u8, usize) -> Filled,
+    pub ungroup: unsafe extern "C" fn(*const u8, usize, *mut u8, usize) -> Filled,
 }
 
 /// What they are held to.
@@ -42,6 +48,10 @@ pub struct Yardstick {
     pub vendor_write: fn(&[u8], &mut [u8]) -> Filled,
     pub index_build: fn(&[u8], &mut [u16]) -> Filled,
     pub index_lookup: fn(&[u8], &[u16], Codes, u8) -> Answer,
+    pub check: fn(&[u8]) -> Checked,
+    pub choose: fn(&[u8], &[u8], &mut [u8]) -> Filled,
+    pub group: fn(&[u8], &mut [u8]) -> Filled,
+    pub ungroup: fn(&[u8], &mut [u8]) -> Filled,
 }
 
 /// The yardstick made of a module of rules.
@@ -67,6 +77,10 @@ macro_rules! yardstick {
             index_lookup: |m, index, known, code| {
                 $($rules)::+::index::lookup(m, index, known, code).into()
             },
+            check: |file| $($rules)::+::groups::check(file).into(),
+            choose: |file, class, out| $($rules)::+::groups::choose(file, class, out).into(),
+            group: |sheet, out| $($rules)::+::groups::group(sheet, out).into(),
+            ungroup: |file, out| $($rules)::+::groups::ungroup(file, out).into(),
         }
     };
 }
@@ -93,5 +107,9 @@ pub fn own_exports() -> Subject {
         vendor_write: independent_vendor_write,
         index_build: independent_index_build,
         index_lookup: independent_index_lookup,
+        check: independent_check_grouped,
+        choose: independent_choose,
+        group: independent_group,
+        ungroup: independent_ungroup,
     }
 }

@@ -1,10 +1,10 @@
--- `sheets::fill` is safe and ends: no store changes the length. Assumes nothing.
+-- `console::fill` is safe and ends: no store changes the length. Assumes nothing.
 use borrow.Author.Needs.{needs}
 use mathlib.Core.Path.{_≡_}
 use Prim.Native.Nat.{_-_, _≤_}
 use lib.ListN.{length}
-use Rattle.sheets.proofs.fill.Statement.{statement}
-use Rattle.sheets.proofs.fill.Tie as tie
+use Rattle.console.proofs.fill.Statement.{statement}
+use Rattle.console.proofs.fill.Tie as tie
 
 abbrev Inv-loop : tie.InvT-loop
 Inv-loop buf₀ first x₀ i₀ buf x i = (length buf ≡ length buf₀) × (i ≤ length buf₀)

@@ -1,0 +1,4 @@
+-- Names, items, and the file as a whole
+pub mod Names
+pub mod Laws
+pub mod Files

@@ -1,0 +1,3 @@
+-- What the public contracts rest on, here and in callers
+pub mod Check
+pub mod Parts

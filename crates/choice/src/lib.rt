@@ -140,7 +140,7 @@ fn choose_group(
     }
 }
 
-// Chooses for a class: the records of the groups reached go to the front of a lent sheet, and the answer is their number of bytes.
+// Chooses for a class: the records of the groups reached go to the front of the caller's buffer, and the answer is their number of bytes.
 pub fn choose(f: &[u8], class: &[u8], out: &mut [u8]) -> Given
     ensures { λ r. ⌜ Fills (grouped.choice (now (f .entry)) (now (class .entry)) (now (out .entry))) r (now (out .exit)) ⌝ }
 {

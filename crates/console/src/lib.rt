@@ -2,6 +2,7 @@
 ghost use mathlib.Core.Path.{_≡_};
 ghost use Prim.Native.Nat.{_<_};
 ghost use Rattle.console.specs.Sum.{sumOf};
+ghost use Rattle.console.specs.Filled.{Rises};
 
 // A byte as a number.
 pub fn wide(x: u8) -> u64
@@ -84,7 +85,9 @@ pub fn sum(s: &[u8]) -> u64
 }
 
 // Fills buf with first, first + 1 and so on, modulo 256, so that a byte that is moved or changed shows.
-pub fn fill(buf: &mut [u8], first: u8) {
+pub fn fill(buf: &mut [u8], first: u8)
+    ensures { λ _. ⌜ Rises first (now (buf .entry)) (now (buf .exit)) ⌝ }
+{
     let mut x = first;
     let mut i: usize = 0;
     while i < buf.len() {

@@ -103,7 +103,7 @@ chosen class (fault n p) = []
 chosen class (rec p r rest) = r ∷ chosen class rest
 chosen class (grp p name inside rest) = cond (reached class name) (chosen class inside) [] ++ chosen class rest
 
--- [G4, G8] the flat sheet for a class, into the lent sheet `old`
+-- [G4, G8] the records for a class as one sheet (the paper's flat sheet), into the caller's buffer `old`
 unfoldable pub choice : List ℕ → List ℕ → List ℕ → Filled
 unfolding check fileOf chosen recordBytes
 choice f class old = filledIf (check f) (recordBytes (chosen class (fileOf f))) old

@@ -42,7 +42,7 @@ pub record ChosenSheet (f class s : List ℕ) : Type 0 where
   pub all : ChosenList f class chosen
   pub is-sheet : s ≡ recordBytes (itemsOf chosen)
 
--- [G8, R11] the file's rows, then "11 last": the lent sheet is too small for what is chosen
+-- [G8, R11] the file's rows, then "11 last": the caller's buffer is too small for what is chosen
 pub data ChoiceRow (f class old : List ℕ) : ℕ → ℕ → When → Type 0 where
   of-file : {n p : ℕ} {w : When} → FileRow f n p w → ChoiceRow f class old n p w
   row-11 : {s : List ℕ} → ChosenSheet f class s → length old < length s → ChoiceRow f class old 11 (length old) (at 5 (length old) 0)

@@ -1,0 +1,11 @@
+-- `vendor_theorems::proved` meets its contract: each statement by its proof. Assumes nothing.
+use Rattle.vendor_theorems.proofs.Items.{vendor-reader-is-correct, vendor-room-is-enough}
+use Rattle.vendor_theorems.proofs.Writing.{vendor-writer-is-correct, vendor-comes-back}
+use Rattle.vendor_theorems.proofs.proved.Statement.{statement}
+use Rattle.vendor_theorems.proofs.proved.Tie as tie
+
+returns : tie.Need-returns
+returns c = (vendor-reader-is-correct, vendor-room-is-enough, vendor-writer-is-correct, vendor-comes-back)
+
+pub proved-spec : {M : Type 1} → statement M
+proved-spec = tie.close (tie.spec returns)

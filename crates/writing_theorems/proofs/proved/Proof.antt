@@ -1,0 +1,40 @@
+-- `writing_theorems::proved` meets its contract: each statement by its proof. Assumes nothing.
+use Rattle.writing_theorems.proofs.Ruled.{ruled-right}
+use Rattle.writing_theorems.proofs.WriterOnly.{option-takes, writer-is-correct, buffer-left}
+use Rattle.writing_theorems.proofs.Splitting.{split-right}
+use Rattle.writing_theorems.proofs.Writer.{writer-writes, plan-two-unused}
+use Rattle.writing_theorems.proofs.Declined.{refuses-by-the-table, declined-iff}
+use Rattle.writing_theorems.proofs.Tries.{plan-two-never-first, file-for-sname, plan-two-needless, tries-right}
+use Rattle.writing_theorems.proofs.Trying.{tried-only, tried-in-order}
+use Rattle.writing_theorems.proofs.Demand.{written-is-accepted, sheet-comes-back, demand-3, demand-3-of-kinds}
+use Rattle.writing_theorems.proofs.IndexedDemand.{indexed-demand-3, indexed-demand-3-of-kinds}
+use Rattle.writing_theorems.proofs.proved.Statement.{statement}
+use Rattle.writing_theorems.proofs.proved.Tie as tie
+
+returns : tie.Need-returns
+returns c = (
+  ruled-right,
+  option-takes,
+  split-right,
+  writer-writes,
+  refuses-by-the-table,
+  declined-iff,
+  writer-is-correct,
+  buffer-left,
+  plan-two-never-first,
+  file-for-sname,
+  plan-two-unused,
+  plan-two-needless,
+  tries-right,
+  tried-only,
+  tried-in-order,
+  written-is-accepted,
+  sheet-comes-back,
+  demand-3,
+  demand-3-of-kinds,
+  indexed-demand-3,
+  indexed-demand-3-of-kinds,
+)
+
+pub proved-spec : {M : Type 1} → statement M
+proved-spec = tie.close (tie.spec returns)

@@ -8,7 +8,7 @@ use lib.ListN.{length, take, drop}
 use Rattle.options.specs.Message.{Rec, Begins, Stands}
 use Rattle.options.specs.Refusals.{Beyond}
 use Rattle.options.specs.KindClaims.{AllBytes}
-use Rattle.options.specs.Answers.{recordBytes, given, Filled, unfilled}
+use Rattle.options.specs.Answers.{recordBytes, given, declined, Filled}
 use Rattle.options.specs.Sheet.{RecordBegins, Listed}
 use Rattle.options.specs.SheetRefusals.{RecordBeyond}
 use Rattle.options.specs.Writing.{optionBytes}
@@ -51,8 +51,8 @@ pub data RecordsAre : List Item → List ℕ → Type 0 where
 
 -- [V4, R17, O10] "the reader 17, then 11"; else the records b of the items xs
 pub data ReadsItems (f old : List ℕ) : Filled → Type 0 where
-  read-17 : {i : ℕ} → RunsPast f i → ReadsItems f old (unfilled 17 i old)
-  read-11 : (xs : List Item) (b : List ℕ) → ItemsOf f xs → RecordsAre xs b → length old < length b → ReadsItems f old (unfilled 11 (length old) old)
+  read-17 : {i : ℕ} → RunsPast f i → ReadsItems f old (record { answer = declined 17 i; buffer = old })
+  read-11 : (xs : List Item) (b : List ℕ) → ItemsOf f xs → RecordsAre xs b → length old < length b → ReadsItems f old (record { answer = declined 11 (length old); buffer = old })
   reads : (xs : List Item) (b : List ℕ) → ItemsOf f xs → RecordsAre xs b → length b ≤ length old → ReadsItems f old (filled b old)
 
 -- no other answer is right
@@ -86,10 +86,10 @@ pub record RightSheet (s : List ℕ) (rs : List Rec) : Type 0 where
 
 -- [V5, R16, R11] "the writer gives 16, record by record .., then 11 with the output's length where the items exceed it or 255"; else the items, "without END"
 pub data WritesItems (s out : List ℕ) : Filled → Type 0 where
-  write-16 : 4096 < length s → WritesItems s out (unfilled 16 (length s) out)
-  write-record : {n i : ℕ} → length s ≤ 4096 → FirstVendorRow s n i → WritesItems s out (unfilled n i out)
+  write-16 : 4096 < length s → WritesItems s out (record { answer = declined 16 (length s); buffer = out })
+  write-record : {n i : ℕ} → length s ≤ 4096 → FirstVendorRow s n i → WritesItems s out (record { answer = declined n i; buffer = out })
   write-11 : (rs : List Rec) → length s ≤ 4096 → RightSheet s rs
-      → (length out < length (optionBytes rs)) ⊎ (255 < length (optionBytes rs)) → WritesItems s out (unfilled 11 (length out) out)
+      → (length out < length (optionBytes rs)) ⊎ (255 < length (optionBytes rs)) → WritesItems s out (record { answer = declined 11 (length out); buffer = out })
   writes : (rs : List Rec) → length s ≤ 4096 → RightSheet s rs
       → length (optionBytes rs) ≤ length out → length (optionBytes rs) ≤ 255 → WritesItems s out (filled (optionBytes rs) out)
 

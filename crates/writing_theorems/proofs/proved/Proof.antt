@@ -1,5 +1,6 @@
 -- `writing_theorems::proved` meets its contract: each statement by its proof. Assumes nothing.
 use Rattle.writing_theorems.proofs.Ruled.{ruled-right}
+use Rattle.writing_theorems.proofs.Options.{option-bytes-right, with-52-right, says-52}
 use Rattle.writing_theorems.proofs.WriterOnly.{option-takes, writer-is-correct, buffer-left}
 use Rattle.writing_theorems.proofs.Splitting.{split-right}
 use Rattle.writing_theorems.proofs.Writer.{writer-writes, plan-two-unused}
@@ -14,9 +15,12 @@ use Rattle.writing_theorems.proofs.proved.Tie as tie
 returns : tie.Need-returns
 returns c = (
   ruled-right,
+  option-bytes-right,
   option-takes,
   split-right,
+  with-52-right,
   writer-writes,
+  says-52,
   refuses-by-the-table,
   declined-iff,
   writer-is-correct,

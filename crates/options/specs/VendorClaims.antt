@@ -7,7 +7,7 @@ use Prim.Native.Nat.{ℕ, _+_, _*_, _≤_, _<_}
 use lib.ListN.{length, take, drop}
 use Rattle.options.specs.Message.{Rec, Begins, Stands}
 use Rattle.options.specs.Refusals.{Beyond}
-use Rattle.options.specs.KindClaims.{AllBytes}
+use Rattle.options.specs.KindClaims.{OneOf, FromTo, AllBytes}
 use Rattle.options.specs.Answers.{recordBytes, given, declined, Filled}
 use Rattle.options.specs.Sheet.{RecordBegins, Listed}
 use Rattle.options.specs.SheetRefusals.{RecordBeyond}
@@ -96,6 +96,18 @@ pub data WritesItems (s out : List ℕ) : Filled → Type 0 where
 -- no other answer is right, for a sheet of bytes, as every sheet handed to the code is
 abbrev pub VendorWriterIsCorrect : Type 0
 VendorWriterIsCorrect = (s out : List ℕ) (w : Filled) → AllBytes s → vendorWrite s out ≡ w ↔ WritesItems s out w
+
+-- "No more room than DHCPOPT_LONGEST_VENDOR is needed", which is 255: so include/dhcpopt.h promises
+abbrev pub VendorWriteRoomIsEnough : Type 0
+VendorWriteRoomIsEnough =
+    (s out : List ℕ) (rs : List Rec) → AllBytes s → length s ≤ 4096 → RightSheet s rs → length (optionBytes rs) ≤ 255 → 255 ≤ length out
+    → vendorWrite s out ≡ filled (optionBytes rs) out
+
+-- "dhcpopt_vendor_records gives 11 and 17, dhcpopt_vendor_write 10 to 13 and 16": so include/dhcpopt.h promises
+abbrev pub VendorNumbers : Type 0
+VendorNumbers =
+    ((f old : List ℕ) (n p : ℕ) → vendorRecords f old .answer ≡ declined n p → OneOf n (11 ∷ 17 ∷ []))
+    × ((s out : List ℕ) (n p : ℕ) → AllBytes s → vendorWrite s out .answer ≡ declined n p → FromTo 10 13 n ⊎ (n ≡ 16))
 
 -- ---- [V6] "Written, then read with room enough, the records come back": n bytes were given, at the start of w; they come back byte for byte
 

@@ -2,6 +2,7 @@
 use Rattle.grouped_theorems.proofs.Rows.{check-is-correct}
 use Rattle.grouped_theorems.proofs.Calls.{choice-is-correct, chosen-is-short, back-is-correct, goes-back-iff}
 use Rattle.grouped_theorems.proofs.Moving.{move-is-correct, empty-moves}
+use Rattle.grouped_theorems.proofs.Numbers.{grouped-room-is-enough, grouped-numbers}
 use Rattle.grouped_theorems.proofs.Rounds.{moved-comes-back, moved-is-chosen, back-moves-again}
 use Rattle.grouped_theorems.proofs.Demands.{records-are-chosen, chosen-comes-back, chosen-demand-3}
 use Rattle.grouped_theorems.proofs.Cases.{cases-hold, checks-hold}
@@ -16,6 +17,8 @@ returns c = (
   move-is-correct,
   empty-moves,
   back-is-correct,
+  grouped-room-is-enough,
+  grouped-numbers,
   moved-comes-back,
   moved-is-chosen,
   back-moves-again,

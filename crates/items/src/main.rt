@@ -4,21 +4,6 @@ use console::word;
 use filled::PlainFilled;
 use message::part;
 
-// Whether a and b have the same bytes.
-fn same(a: &[u8], b: &[u8]) -> bool {
-    if a.len() != b.len() {
-        return false;
-    }
-    let mut i: usize = 0;
-    while i < a.len() {
-        if a[i] != b[i] {
-            return false;
-        }
-        i = i + 1;
-    }
-    true
-}
-
 // What was given: the bytes, or the refusal; and a sum of the bytes of the buffer past them.
 fn shown(g: PlainFilled, out: &[u8]) {
     if g.refusal != 0 {
@@ -38,7 +23,7 @@ fn back(sheet: &[u8], bytes: &[u8]) {
     let g = dhcpopt_reader::dhcpopt_vendor_records(bytes, &mut out);
     if g.refusal != 0 {
         console::two(b"back refused", g.refusal as usize, g.place);
-    } else if same(sheet, part(&out, 0, g.size)) {
+    } else if check::same(sheet, part(&out, 0, g.size)) {
         word(b"back same");
     } else {
         word(b"back differs");

@@ -1,4 +1,5 @@
 // Reads settings sheets from standard input, writes each into a buffer, and prints what was written (tests/sheets/README.md).
+mod names;
 mod print;
 
 // The lines of one sheet.
@@ -9,6 +10,7 @@ fn one(sheet: &[u8], buf: &mut [u8], permission: u8) {
     } else {
         print::refused(w.refusal, w.place, buf);
     }
+    names::written(sheet, buf.len(), permission, w);
     console::word(b"-\n");
 }
 

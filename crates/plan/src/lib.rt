@@ -5,7 +5,7 @@ ghost use lib.Dec.{ltb};
 ghost use lib.ListN.{length};
 ghost use Prim.Native.Nat.{_+_, _-_, _*_, _≤_, _<_};
 ghost use Rattle.options.specs.Writing.{piecesLeft, Between};
-ghost use Rattle.plan.specs.Answer.{Answers, AnswerLosesNothing, RefusalsAreNumbered};
+ghost use Rattle.plan.specs.Answer.{Answers};
 ghost use Rattle.plan.specs.Pieces.{sizeOf, pieceOf};
 ghost use Rattle.plan.specs.Steps.{sizes, Single, RestOf, overloading, firstFit, Tries};
 
@@ -214,8 +214,3 @@ pub fn choose(len: usize, s: &[u8], permission: u8) -> Choice
     }
     choose_judged(len, s, verdict.single, verdict.total, permission)
 }
-
-// The statements of specs/ hold.
-pub fn proved()
-    ensures { λ _. ⌜ AnswerLosesNothing × RefusalsAreNumbered ⌝ }
-{}

@@ -1,7 +1,7 @@
 // The codes present in a message (document 01, What is asked of a message: the roll call).
 ghost use mathlib.Core.Path.{_≡_};
 ghost use Rattle.options.specs.Answers.{present};
-ghost use Rattle.present.specs.Marked.{codesOf, RefusedByANumber, CodesKeepTheAnswer};
+ghost use Rattle.present.specs.Marked.{codesOf};
 
 // The set of the codes present, 52 included, how many they are, the lowest of them (0 if none), and number and place of a refusal: then the others are 0.
 pub struct Codes {
@@ -28,8 +28,3 @@ pub fn present(m: &[u8]) -> Codes
         place: w.place,
     }
 }
-
-// The statements of specs/ hold.
-pub fn proved()
-    ensures { λ _. ⌜ RefusedByANumber × CodesKeepTheAnswer ⌝ }
-{}

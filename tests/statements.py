@@ -1,9 +1,10 @@
 #!/usr/bin/env python3
 """Every statement of the definitions is named in the contract of a function `proved`, so that the gate refuses a tree in which its proof is missing.
 
-A statement is a name of type `Type 0` without parameters in a file crates/NAME/specs/*.antt: `abbrev pub NAME : Type 0`. It counts as named where
-the `ensures` of a `pub fn proved()` has it as a factor, and the file brings it in by a `ghost use` from the module that states it. A name that stands
-in no specs, or in two contracts, is told too. The last line is 'N statements, M unnamed'.
+A statement is a name of type `Type 0` without parameters in a file crates/NAME/specs/*.antt: `abbrev pub NAME : Type 0`, or `pub record NAME : Type 0`
+where every member says that something holds. It counts as named where the `ensures` of a `pub fn proved()` has it as a factor, and the file brings it in
+by a `ghost use` from the module that states it. A name that is no statement, or stands in two contracts, is told too. The last line is
+'N statements, M unnamed'.
 """
 import re
 import sys
@@ -13,15 +14,24 @@ ROOT = Path(__file__).resolve().parent.parent
 # types of data, which state nothing: (crate, module, name)
 NO_STATEMENT = {("options", "Grouped", "Body")}
 STATED = re.compile(r"^(?:abbrev |unfoldable )?pub ([\w′]+) : Type 0[ \t]*$", re.M)
+RECORD = re.compile(r"^pub record ([\w′]+) : Type 0 where\n((?:[ \t]+.*\n|[ \t]*--.*\n)*)", re.M)
+HOLDS = re.compile(r"≡|↔|≤|<|⊥")
 USED = re.compile(r"^ghost use Rattle·(\w+?)(?:·specs)?\.specs\.(\w+)\.\{([^}]*)\};", re.M)
 PROVED = re.compile(r"^pub fn proved\(\)\s*ensures \{ λ _\. ⌜(.*?)⌝ \}", re.M | re.S)
+
+
+def facts(members):
+    """Whether each member of a record says that something holds."""
+    parts = re.split(r"^  pub ", re.sub(r"--.*", "", members), flags=re.M)[1:]
+    return bool(parts) and all(HOLDS.search(part) for part in parts)
 
 
 def stated():
     found = set()
     for path in sorted((ROOT / "crates").glob("*/specs/*.antt")):
-        crate = path.relative_to(ROOT).parts[1]
-        found |= {(crate, path.stem, name) for name in STATED.findall(path.read_text())}
+        crate, text = path.relative_to(ROOT).parts[1], path.read_text()
+        names = STATED.findall(text) + [name for name, members in RECORD.findall(text) if facts(members)]
+        found |= {(crate, path.stem, name) for name in names}
     return found - NO_STATEMENT
 
 

@@ -6,6 +6,7 @@ use Rattle.theorems.proofs.Lengths.{fields-in-order}
 use Rattle.theorems.proofs.Lookup.{absent-iff-not-held, shows-what-stands, held-has-origin, origin-is-the-code-byte, verdict-is-the-number, lookup-refused-by-the-table, known-set-indifferent, lookup-is-correct}
 use Rattle.theorems.proofs.Pieces.{pieces-right, one-pieces-of, held-iff-piece, joined-right, stands-once}
 use Rattle.theorems.proofs.KindTable.{kinds-by-code, codes-without-row, known-codes}
+use Rattle.theorems.proofs.Bits.{marked-right}
 use Rattle.theorems.proofs.KindRules.{kinds-are-the-table, kinds-proper, signed-ends}
 use Rattle.theorems.proofs.ByTable.{value-by-the-table, lookup-by-the-table}
 use Rattle.theorems.proofs.Parts.{data-is-the-options, no-data-else, text-is-the-answers, no-text-else, text-is-the-options, no-text-of-broken, empty-part-is-zero, shown-bytes-are-the-options}
@@ -47,6 +48,7 @@ returns c = (
   reading-is-correct,
   kinds-by-code,
   codes-without-row,
+  marked-right,
   known-codes,
   kinds-are-the-table,
   value-by-the-table,

@@ -1,5 +1,5 @@
 -- `writing_theorems::proved` meets its contract: each statement by its proof. Assumes nothing.
-use Rattle.writing_theorems.proofs.Ruled.{ruled-right}
+use Rattle.writing_theorems.proofs.Ruled.{record-bytes-right, ruled-right}
 use Rattle.writing_theorems.proofs.Options.{option-bytes-right, with-52-right, says-52}
 use Rattle.writing_theorems.proofs.WriterOnly.{option-takes, writer-numbers, writer-is-correct, buffer-left}
 use Rattle.writing_theorems.proofs.Splitting.{split-right}
@@ -15,6 +15,7 @@ use Rattle.writing_theorems.proofs.proved.Tie as tie
 
 returns : tie.Need-returns
 returns c = (
+  record-bytes-right,
   ruled-right,
   option-bytes-right,
   option-takes,

@@ -14,6 +14,7 @@ use Rattle.options.specs.Answers.{Verdict, passed, refusedWith, unfilled, fille
 use Rattle.options.specs.SheetWalk.{Walk, allRead, cutAt, readAt, recordsFrom, Sheet, sound, faulty, keep, ruled}
 use Rattle.options.specs.Grouped.{Items, none, fault, rec, grp, Body, groupOf, members, body, behind, fileOf, andThen, faultOf, check, filledIf, moveRules, verdictOn, inGroup, move, noGroup, wayBack, goBack}
 use Rattle.theorems.proofs.View.{clash}
+use Rattle.grouped_theorems.proofs.Choosing.{both-passed}
 use Rattle.buffer.specs.Written.{laid}
 use Rattle.sheet.specs.Steps.{stepOf, walkBy}
 use Rattle.sheet.specs.declared.Step.{Step}
@@ -143,10 +144,6 @@ no-group-in deeper (readAt i r rest) e = go (eqb (r .tag) 0) (among (r .tag) (52
     go false true q ih = clash (cc)
     go false false q ih = ih q
 
-passed-both : (v w : Verdict) → andThen v w ≡ passed → (v ≡ passed) × (w ≡ passed)
-passed-both passed w e = (refl, e)
-passed-both (refusedWith n p) w e = clash (cc)
-
 -- an accepted file is its outermost group, to its end
 pub record Whole (f : List ℕ) : Type 0 where
   pub long : 4 + getD f 3 0 ≤ length f
@@ -173,7 +170,7 @@ module _ (f : List ℕ) (e : check f ≡ passed) where
 
   both : (faultOf (groupOf (body 4) 0 (drop 3 (take size f)) none) ≡ passed) × (faultOf (behind size (drop size f)) ≡ passed)
   both =
-      passed-both (faultOf (groupOf (body 4) 0 (drop 3 (take size f)) none)) (faultOf (behind size (drop size f)))
+      both-passed (faultOf (groupOf (body 4) 0 (drop 3 (take size f)) none)) (faultOf (behind size (drop size f)))
       (sym (ap faultOf (outer f size refl has-outer .is-group) ∙ group-then (body 4) 0 (drop 3 (take size f)) (behind size (drop size f))) ∙ file-passes)
 
   to-end : (t : Bool) → ltb size (length f) ≡ t → length f ≤ size

@@ -830,7 +830,7 @@ def main():
     given, printed = b"", []
     for reason, permission, length, text, expected, *first in cases:
         sheet, fill = bytes.fromhex(text), first[0] if first else FILL
-        given += bytes([permission]) + length.to_bytes(2, "big") + bytes([fill]) + len(sheet).to_bytes(2, "big") + sheet
+        given += bytes([permission]) + length.to_bytes(2, "big") + bytes([fill, 0, 0]) + len(sheet).to_bytes(2, "big") + sheet
         printed += lines(length, fill, sheet, expected) + ["-"]
     OUT.mkdir(parents=True, exist_ok=True)
     (OUT / "stdin").write_bytes(given)

@@ -224,9 +224,10 @@ def extra():
 def main():
     given, place, messages = (OUT / "stdin").read_bytes(), 0, []
     while place < len(given):
-        length = given[place] * 256 + given[place + 1]
-        messages.append(given[place + 2:place + 2 + length])
-        place += 2 + length
+        assert given[place:place + 6] == bytes(6)
+        length = given[place + 6] * 256 + given[place + 7]
+        messages.append(given[place + 8:place + 8 + length])
+        place += 8 + length
     assert place == len(given)
     text = (OUT / "stdout").read_text()
     expected, lines = [], []

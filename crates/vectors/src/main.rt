@@ -52,24 +52,16 @@ fn one(m: &[u8]) {
     console::word(b"-\n");
 }
 
-// Reads a message as long as buf and prints its lines.
-fn body(buf: &mut [u8]) {
-    let n = io::read_full(0, buf);
-    one(&buf[..n]);
-}
-
 // Reads one message and prints its lines; false at the end of the input.
 fn next() -> bool {
-    let mut head = [0u8; 2];
-    if io::read_full(0, &mut head) < 2 {
+    let mut name = [0u8; 1];
+    let mut m = [0u8; 1600];
+    let mut out = [0u8; 1];
+    let c = console::next(&mut name, &mut m, &mut out);
+    if !c.there {
         return false;
     }
-    let size = (console::wide(head[0]) * 256 + console::wide(head[1])) as usize;
-    if 1600 < size {
-        return false;
-    }
-    let mut buf = [0u8; 1600];
-    body(&mut buf[..size]);
+    one(message::part(&m, 0, c.size));
     true
 }
 

@@ -117,6 +117,7 @@ pub fn line(m: &[u8], known: [u64; 4], code: u8) {
     let a = dhcpopt_reader::dhcpopt_lookup(m, known[0], known[1], known[2], known[3], code);
     answer(a);
     word(b"\n");
+    names::answered(m, known, code, a);
 }
 
 // The line of the codes present.

@@ -101,11 +101,11 @@ no-data m c n p (row-10 (inr x)) = rw x
 no-data m c n p (of-message l u f) = either-none (noCode c) (dataIn c (readMessage m)) (ap (dataIn c) (refused-by-the-table m n p .1 f))
 
 pub data-refused : DataRefusedForC
-data-refused m c n p r e x = rw (e, no-data m c n p x) (refl, refl)
+data-refused m c r e n p x = rw (e, no-data m c n p x) (refl, refl)
 
 pub text-refused : TextRefusedForC
 unfolding textOf
-text-refused k0 k1 k2 k3 m c n p r h e x =
+text-refused k0 k1 k2 k3 m c r h e n p x =
     rw (e, lookup-is-correct kinds (said.known k0 k1 k2 k3) m c (Refused n p) h .1 x) (refl, refl)
 
 -- ---- The codes present

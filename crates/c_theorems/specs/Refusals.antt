@@ -67,16 +67,25 @@ abbrev pub CopyRefusedForC : Type 0
 CopyRefusedForC = (m : List ℕ) (c : ℕ) (old : List ℕ) → c ≤ 255 → RefusedOnlyBy (CopyRow m c old) old (copy m c old)
 
 -- "the reader 17, then 11" (request 05)
+abbrev pub VendorReadRow : List ℕ → List ℕ → ℕ → ℕ → Type 0
+VendorReadRow f old n p = ReadsItems f old (record { answer = declined n p; buffer = old })
+
 abbrev pub VendorRecordsRefusedForC : Type 0
-VendorRecordsRefusedForC = (f old : List ℕ) → RefusedOnlyBy (λ n p. ReadsItems f old (record { answer = declined n p; buffer = old })) old (vendorRecords f old)
+VendorRecordsRefusedForC = (f old : List ℕ) → RefusedOnlyBy (VendorReadRow f old) old (vendorRecords f old)
 
 -- "the writer gives 16, record by record 12, 10 (tag 0 or 255), 13 (over 255), then 11" (request 05)
+abbrev pub VendorWriteRow : List ℕ → List ℕ → ℕ → ℕ → Type 0
+VendorWriteRow s out n p = WritesItems s out (record { answer = declined n p; buffer = out })
+
 abbrev pub VendorWriteRefusedForC : Type 0
-VendorWriteRefusedForC = (s out : List ℕ) → AllBytes s → RefusedOnlyBy (λ n p. WritesItems s out (record { answer = declined n p; buffer = out })) out (vendorWrite s out)
+VendorWriteRefusedForC = (s out : List ℕ) → AllBytes s → RefusedOnlyBy (VendorWriteRow s out) out (vendorWrite s out)
 
 -- "Building gives 1, 2, 3, 18, then the reader's" (request 07)
+abbrev pub BuildRow : List ℕ → List ℕ → ℕ → ℕ → Type 0
+BuildRow m old n p = Builds m old (record { answer = declined n p; buffer = old })
+
 abbrev pub BuildRefusedForC : Type 0
-BuildRefusedForC = (m old : List ℕ) → RefusedOnlyBy (λ n p. Builds m old (record { answer = declined n p; buffer = old })) old (build m old)
+BuildRefusedForC = (m old : List ℕ) → RefusedOnlyBy (BuildRow m old) old (build m old)
 
 -- "Refusals, over the whole file in written order after 16 ..; 11 last" (request 08)
 abbrev pub ChooseRefusedForC : Type 0
@@ -102,18 +111,22 @@ LookupRefusedForC =
     (k0 k1 k2 k3 : ℕ) (m : List ℕ) (c : ℕ) (r : PlainAnswer) → c ≤ 255 → r ≡ plainAnswer (lookup kinds (known k0 k1 k2 k3) m c) → LookupRefusedBy (known k0 k1 k2 k3) m c r
 
 -- through an index: "18 .., after 10, 1, 2, 3; then, in a lookup, 19 for an unusable entry ..; then the plain walk's where used" (request 07)
+abbrev pub IndexRefusedBy : (ℕ → Bool) → List ℕ → List ℕ → ℕ → PlainAnswer → Type 0
+IndexRefusedBy set m idx c r = (n p : ℕ) → ((r .status ≡ 2) × (r .refusal ≡ n) × (r .place ≡ p)) ↔ indexed.Answers kinds set m idx c (Refused n p)
+
 abbrev pub IndexLookupRefusedForC : Type 0
 IndexLookupRefusedForC =
-    (k0 k1 k2 k3 : ℕ) (m idx : List ℕ) (c : ℕ) (r : PlainAnswer) → c ≤ 255 → r ≡ plainAnswer (lookupBy kinds (known k0 k1 k2 k3) m idx c)
-    → (n p : ℕ) → ((r .status ≡ 2) × (r .refusal ≡ n) × (r .place ≡ p)) ↔ indexed.Answers kinds (known k0 k1 k2 k3) m idx c (Refused n p)
+    (k0 k1 k2 k3 : ℕ) (m idx : List ℕ) (c : ℕ) (r : PlainAnswer) → c ≤ 255 → r ≡ plainAnswer (lookupBy kinds (known k0 k1 k2 k3) m idx c) → IndexRefusedBy (known k0 k1 k2 k3) m idx c r
 
 -- "the data and text calls alone give just the empty part, and the lookup names the cause"
+abbrev pub EmptyIfRefused : List ℕ → ℕ → PlainExtent → Type 0
+EmptyIfRefused m c r = (n p : ℕ) → ReaderRow m c n p → (r .start ≡ 0) × (r .length ≡ 0)
+
 abbrev pub DataRefusedForC : Type 0
-DataRefusedForC = (m : List ℕ) (c n p : ℕ) (r : PlainExtent) → r ≡ plainExtent (dataOf m c) → ReaderRow m c n p → (r .start ≡ 0) × (r .length ≡ 0)
+DataRefusedForC = (m : List ℕ) (c : ℕ) (r : PlainExtent) → r ≡ plainExtent (dataOf m c) → EmptyIfRefused m c r
 
 abbrev pub TextRefusedForC : Type 0
-TextRefusedForC =
-    (k0 k1 k2 k3 : ℕ) (m : List ℕ) (c n p : ℕ) (r : PlainExtent) → c ≤ 255 → r ≡ plainExtent (textOf (known k0 k1 k2 k3) m c) → ReaderRow m c n p → (r .start ≡ 0) × (r .length ≡ 0)
+TextRefusedForC = (k0 k1 k2 k3 : ℕ) (m : List ℕ) (c : ℕ) (r : PlainExtent) → c ≤ 255 → r ≡ plainExtent (textOf (known k0 k1 k2 k3) m c) → EmptyIfRefused m c r
 
 -- "A refusal gives zeros with it"
 pub record PresentRefusedBy (m : List ℕ) (r : PlainCodes) : Type 0 where

@@ -26,7 +26,7 @@
  * of an answer), the minor one where calls or names are added, or other data are right. The archives carry no version: take header and archives from one state.
  * 2.0: a lookup's answer says which field it comes from, and a broken option has a status of its own.
  * 3.0: a code may come in several pieces, in one field or over several (RFC 3396). A lookup answers for all of them together, and
- * dhcpopt_copy gives their bytes. docs/C-API.md, 'What changed in version 3', says what to do.
+ * dhcpopt_copy gives their bytes. docs/C-API.md, 'Versions', says what to do.
  * 3.1: a text with a byte over 127, or with a zero before a byte that is not 0, is broken (9), and the writer refuses it.
  * 3.2: dhcpopt_vendor_records and dhcpopt_vendor_write, for what is inside option 43 (RFC 2132, 8.4).
  * 3.3: dhcpopt_index_build and dhcpopt_index_lookup: an index of a message, for many lookups of one message.
@@ -499,7 +499,10 @@ static inline const char *dhcpopt_field_name(uint32_t field)
     return field == DHCPOPT_FIELD_OPTIONS ? "options" : field == DHCPOPT_FIELD_FILE ? "file" : field == DHCPOPT_FIELD_SNAME ? "sname" : "";
 }
 
-/* The name of a code's option, as DHCPOPT_CODES and docs/C-API.md have it; that of a code without a kind is empty. */
+/*
+ * The name of a code's option, as DHCPOPT_CODES and docs/C-API.md have it; that of a code without a kind is empty. A program that does not
+ * call it does not hold the names.
+ */
 static inline const char *dhcpopt_code_name(uint8_t code)
 {
     switch (code) {

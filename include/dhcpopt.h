@@ -392,6 +392,8 @@ DHCPOPT_CALL dhcpopt_filled dhcpopt_vendor_records(const uint8_t *bytes, size_t 
  * Writes a sheet of such records into a message buffer. The whole buffer, all its size bytes, is then the message.
  * A record of more than 255 data bytes is cut into pieces of 255 and a last one of 1 to 255, in order; each is whole in one field.
  * Permitted plans are tried rising, and the first that fits is used. With permission 3 it is never plan 2: where that fits, plan 1 does.
+ * Records keep their order and no field is gone back to, so the order may decide whether they fit: put a record of more than 255 bytes
+ * right behind 53 and 54 (docs/C-API.md, 'When it does not fit').
  * Written are the cookie, the options field and whichever of file and sname the plan uses, each to its last byte; the header and an
  * unused file or sname stay as they were.
  * A refusal leaves all of the buffer as it was. Refused, in this order: 1 or 2 at size; 15 at 0; 16 at sheet_size; the first faulty

@@ -1,7 +1,8 @@
-// Further calls for C (docs/RULES.md, L4 and Q19): the listing, and where END stands. A library of its own, so that those of the reader are compiled as before.
+// Further calls for C (docs/RULES.md, L4, Q19 and I8): the listing, where END stands, and the copy through an index. A library of its own, so that those of the reader and of an index are compiled as before.
 ghost use mathlib.Core.Path.{_≡_};
 ghost use Rattle.options.specs.Trim.{optionsEnd};
 ghost use Rattle.options.specs.Listed.{listed};
+ghost use Rattle.options.specs.IndexCopy.{copyBy};
 ghost use Rattle.options.specs.ListedClaims.{ListedIsRight, ListingRoomIsEnough};
 ghost use Rattle.filled.specs.Fill.{Fills};
 ghost use Rattle.filled.specs.Plain.{plainFilled};
@@ -33,6 +34,19 @@ pub extern "C" fn dhcpopt_options_end(m: &[u8]) -> PlainEnd
     ensures { λ r. ⌜ r ≡ plainEnd (optionsEnd (now (m .entry))) ⌝ }
 {
     trim::options_end(m)
+}
+
+// The bytes of a code, found through an index, at the front of the buffer out.
+#[no_mangle]
+pub extern "C" fn dhcpopt_index_copy(
+    m: &[u8],
+    index: &[u16],
+    code: u8,
+    out: &mut [u8],
+) -> PlainFilled
+    ensures { λ r. ⌜ (r ≡ plainFilled (copyBy (now (m .entry)) (now (index .entry)) code (now (out .entry)) .answer)) × (now (out .exit) ≡ copyBy (now (m .entry)) (now (index .entry)) code (now (out .entry)) .buffer) ⌝ }
+{
+    filled::plain(index_copy::copy(m, index, code, out))
 }
 
 // What is proved of the definition.

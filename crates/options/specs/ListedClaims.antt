@@ -1,4 +1,4 @@
--- WHAT THE LISTING IN A LENT BUFFER MUST SATISFY. Proved in crate dhcpopt_listing. Assumes nothing.
+-- WHAT THE LISTING IN A LENT BUFFER MUST SATISFY. Proved in crate dhcpopt_extra. Assumes nothing.
 use mathlib.Core.Path.{_≡_}
 use mathlib.Core.List.{List, _++_}
 use mathlib.Core.Logic.{_↔_}

@@ -1,6 +1,7 @@
 /*
  * The options of one DHCPv4 message (RFC 2131, RFC 2132, RFC 3396): a reader and a writer, for C11 and C++17 on x86-64 Linux.
  *
+ * libdhcpopt_extra.a has dhcpopt_list, dhcpopt_options_end and dhcpopt_index_copy;
  * libdhcpopt_writer.a has dhcpopt_write, dhcpopt_vendor_write and the calls on grouped sheets (dhcpopt_check_grouped, dhcpopt_choose,
  * dhcpopt_group, dhcpopt_ungroup), libdhcpopt_index.a has dhcpopt_index_build and dhcpopt_index_lookup, and libdhcpopt_reader.a every
  * other call, so a meter that only reads links the reader's archive alone. docs/C-API.md has an example of each call.
@@ -33,6 +34,7 @@
  * 3.4: one sheet for all devices: dhcpopt_check_grouped, dhcpopt_choose, dhcpopt_group and dhcpopt_ungroup.
  * 3.5: names of codes, message types and refusals, and inline helpers: to put records into a sheet, and to step over records and pairs.
  * The compiler now tells of an answer that is not looked at, and of a null pointer.
+ * dhcpopt_list, dhcpopt_options_end and dhcpopt_index_copy, in an archive of their own.
  */
 #define DHCPOPT_VERSION_MAJOR 3
 #define DHCPOPT_VERSION_MINOR 5
@@ -83,6 +85,7 @@ enum dhcpopt_limit {
     DHCPOPT_LONGEST_ITEM = 255,     /* of data in a record that dhcpopt_vendor_write takes */
     DHCPOPT_LONGEST_VENDOR = 255,   /* that dhcpopt_vendor_write gives */
     DHCPOPT_LONGEST_GROUPED = 4100, /* a grouped file */
+    DHCPOPT_LONGEST_LISTING = 16384, /* no listing is longer: enough for dhcpopt_list */
     DHCPOPT_DEEPEST_GROUP = 4       /* groups within groups, the outermost counted */
 };
 
@@ -322,6 +325,12 @@ typedef struct {
     size_t place;
 } dhcpopt_wrote;
 
+/* What dhcpopt_options_end found: where END stands, or a refusal. */
+typedef struct {
+    uint32_t refusal; /* DHCPOPT_NOT_REFUSED, and place is that of END; or DHCPOPT_REFUSED_*, and place is the refusal's */
+    size_t place;
+} dhcpopt_end;
+
 /* What dhcpopt_check_grouped found: no fault, or a refusal. */
 typedef struct {
     uint32_t refusal; /* DHCPOPT_NOT_REFUSED, or place is where */
@@ -461,6 +470,33 @@ DHCPOPT_CALL dhcpopt_filled dhcpopt_group(const uint8_t *sheet, size_t sheet_siz
  * Refused as by dhcpopt_check_grouped, then by 22 at 0, then by 11 at room. A room of DHCPOPT_LONGEST_SHEET is always enough.
  */
 DHCPOPT_CALL dhcpopt_filled dhcpopt_ungroup(const uint8_t *file, size_t size, uint8_t *out, size_t room);
+
+/*
+ * Lists a message as text, as the program list_options prints it: one line `accepted N` with the number of options, then one line for
+ * each, `code start length field`, as `51 110 4 file`; or one line `refused N P`. Every line ends with a newline; there is no zero behind
+ * the text. A refused message refuses nothing here: its line is the answer.
+ * Bytes of out after the given ones stay as they were. Refused only by 11 at room, and then all of out stays as it was. A room of
+ * DHCPOPT_LONGEST_LISTING is always enough. The call takes some 16 KiB of stack.
+ */
+DHCPOPT_CALL dhcpopt_filled dhcpopt_list(const uint8_t *message, size_t size, uint8_t *out, size_t room);
+
+/*
+ * Where the options field of an accepted message has its END. A sender may send the first place + 1 bytes alone: they are read as the whole
+ * message is, each option at its place; what follows END is not read. (Some clients expect 300 bytes or more: RFC 2131, 2.)
+ * Refused by 1 to 7, with places as in dhcpopt_lookup.
+ */
+DHCPOPT_CALL dhcpopt_end dhcpopt_options_end(const uint8_t *message, size_t size);
+
+/*
+ * Copies the data bytes of a code through an index. With an index that was built from the same bytes it does what dhcpopt_copy does, in its
+ * answer and in every byte of out; the message is walked only for a code in pieces. With any other index 0 says absent, 65,535 is copied as
+ * dhcpopt_copy does, and any other entry is used as by dhcpopt_index_lookup.
+ * Refused, in this order: 10 at 0; 1 or 2 at the length; 3 at 236; 18 at count where that is not 256; 19 at the entry that is not used, or
+ * 4 to 7, with places as in dhcpopt_lookup, where the message is walked; then 11, at 0 where the code is absent, at room where out is too
+ * small. A refusal leaves all of out as it was.
+ */
+DHCPOPT_CALL dhcpopt_filled dhcpopt_index_copy(const uint8_t *message, size_t size, const uint16_t *index, size_t count, uint8_t code, uint8_t *out,
+                                  size_t room);
 
 /* A set of known codes. Begin with {{0, 0, 0, 0}} or with dhcpopt_known_all. */
 typedef struct {
@@ -779,6 +815,9 @@ DHCPOPT_MEMBER(dhcpopt_filled, place, 16, 8);
 DHCPOPT_ASSERT(sizeof(dhcpopt_checked) == 16);
 DHCPOPT_MEMBER(dhcpopt_checked, refusal, 0, 4);
 DHCPOPT_MEMBER(dhcpopt_checked, place, 8, 8);
+DHCPOPT_ASSERT(sizeof(dhcpopt_end) == 16);
+DHCPOPT_MEMBER(dhcpopt_end, refusal, 0, 4);
+DHCPOPT_MEMBER(dhcpopt_end, place, 8, 8);
 DHCPOPT_ASSERT(sizeof(dhcpopt_wrote) == 16);
 DHCPOPT_MEMBER(dhcpopt_wrote, refusal, 0, 4);
 DHCPOPT_MEMBER(dhcpopt_wrote, plan, 4, 4);

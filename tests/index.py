@@ -186,4 +186,5 @@ def main():
     print(f"index: {len(files)} files and {cases} messages, {check.compared} answers agree")
 
 
-main()
+if __name__ == "__main__":
+    main()

@@ -57,6 +57,12 @@ typedef struct {
     size_t size, place;
 } plain_filled;
 
+/* Request 09: the records of sub-options. circuit, remote: 1 where there is such a one; start and length are those of its data. */
+typedef struct {
+    uint32_t refusal, circuit, remote;
+    size_t size, place, circuit_start, circuit_length, remote_start, remote_length;
+} plain_relay;
+
 /* refusal 0: written, by that plan. */
 typedef struct {
     uint32_t refusal, plan;
@@ -80,6 +86,9 @@ plain_answer plain_index_lookup(const uint8_t *m, size_t n, const uint16_t *inde
 plain_wrote plain_write(const uint8_t *sheet, size_t n, uint8_t *m, size_t room, uint8_t permission);
 plain_filled plain_vendor_records(const uint8_t *bytes, size_t n, uint8_t *out, size_t room);
 plain_filled plain_vendor_write(const uint8_t *sheet, size_t n, uint8_t *out, size_t room);
+
+plain_relay plain_relay_records(const uint8_t *bytes, size_t n, uint8_t *out, size_t room);
+plain_filled plain_relay_write(const uint8_t *sheet, size_t n, uint8_t *out, size_t room);
 
 /* Grouped sheets, request 08. */
 plain_checked plain_check_grouped(const uint8_t *f, size_t n);

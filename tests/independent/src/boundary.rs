@@ -1,7 +1,10 @@
 //! The C structures, and the implementation exported with the library's C
 //! signatures, so that single calls of it can be counted.
 
-use crate::rules::answers::{Codes, Content, Lookup, Origin, Part, Refusal, RollCall, Several};
+use crate::rules::answers::{
+    Codes, Content, Lookup, Origin, Part, Refusal, RollCall, Several, EMPTY,
+};
+use crate::rules::relay::{self, Listed};
 use crate::rules::{groups, index, reading, vendor, writing};
 use std::slice;
 
@@ -70,6 +73,44 @@ pub struct Wrote {
     pub refusal: u32,
     pub plan: u32,
     pub place: usize,
+}
+
+/// What a reader of sub-options answers. circuit and remote: 1 where the
+/// sub-option is there.
+#[repr(C)]
+#[derive(Clone, Copy, PartialEq, Eq, Debug, Default)]
+pub struct Relay {
+    pub refusal: u32,
+    pub circuit: u32,
+    pub remote: u32,
+    pub size: usize,
+    pub place: usize,
+    pub circuit_start: usize,
+    pub circuit_length: usize,
+    pub remote_start: usize,
+    pub remote_length: usize,
+}
+
+impl From<Result<Listed, Refusal>> for Relay {
+    fn from(result: Result<Listed, Refusal>) -> Relay {
+        let listed = match result {
+            Ok(listed) => listed,
+            Err(r) => return Relay { refusal: r.number, place: r.place, ..Relay::default() },
+        };
+        let circuit = listed.circuit.unwrap_or(EMPTY);
+        let remote = listed.remote.unwrap_or(EMPTY);
+        Relay {
+            refusal: 0,
+            circuit: u32::from(listed.circuit.is_some()),
+            remote: u32::from(listed.remote.is_some()),
+            size: listed.size,
+            place: 0,
+            circuit_start: circuit.start,
+            circuit_length: circuit.length,
+            remote_start: remote.start,
+            remote_length: remote.length,
+        }
+    }
 }
 
 impl From<Result<Lookup, Refusal>> for Answer {
@@ -332,6 +373,32 @@ pub unsafe extern "C" fn independent_vendor_write(
     room: usize,
 ) -> Filled {
     vendor::write(lent(sheet, n), lent_mut(out, room)).into()
+}
+
+/// # Safety
+/// `bytes` points to `n` readable bytes, `out` to `room` bytes lent to this
+/// call alone.
+#[no_mangle]
+pub unsafe extern "C" fn independent_relay_records(
+    bytes: *const u8,
+    n: usize,
+    out: *mut u8,
+    room: usize,
+) -> Relay {
+    relay::records(lent(bytes, n), lent_mut(out, room)).into()
+}
+
+/// # Safety
+/// `sheet` points to `n` readable bytes, `out` to `room` bytes lent to this
+/// call alone.
+#[no_mangle]
+pub unsafe extern "C" fn independent_relay_write(
+    sheet: *const u8,
+    n: usize,
+    out: *mut u8,
+    room: usize,
+) -> Filled {
+    relay::write(lent(sheet, n), lent_mut(out, room)).into()
 }
 
 /// # Safety

@@ -36,6 +36,8 @@ pub enum Kind {
     Signed32 = 9,
     Text = 10,
     Opaque = 11,
+    /// Request 09.
+    Relay = 12,
 }
 
 /// "the field that holds its code byte (options, file, sname)"

@@ -2,25 +2,30 @@
 //! rules that the mode `broken` tries.
 
 use std::fmt::Write;
-use std::{env, fs, path::Path};
+use std::{env, fs, path::Path, process::Command};
 
 include!("build/variants.rs");
+include!("build/relay_variants.rs");
 
 /// The files of src/rules that are copied, each with those it is used by.
-const FILES: [(&str, &[&str]); 6] = [
+const FILES: [(&str, &[&str]); 7] = [
     ("groups.rs", &["groups.rs"]),
     ("kinds.rs", &["kinds.rs", "reading.rs", "writing.rs"]),
     ("reading.rs", &["reading.rs"]),
     ("index.rs", &["index.rs"]),
     ("writing.rs", &["writing.rs"]),
     ("vendor.rs", &["vendor.rs"]),
+    ("relay.rs", &["relay.rs"]),
 ];
 
 fn main() {
     link();
+    if relay() {
+        plain_relay();
+    }
     let generated = Path::new(&env::var("OUT_DIR").unwrap()).join("variants.rs");
     fs::write(generated, variants()).unwrap();
-    for path in ["build.rs", "build/variants.rs", "src/rules"] {
+    for path in ["build.rs", "build", "src/rules"] {
         println!("cargo:rerun-if-changed={path}");
     }
 }
@@ -34,11 +39,34 @@ fn link() {
     }
 }
 
+/// Whether request 09 holds.
+fn relay() -> bool {
+    env::var_os("CARGO_FEATURE_RELAY").is_some()
+}
+
+/// Compiles `bench/plain_relay.c`, which stands in for the library.
+fn plain_relay() {
+    let out = env::var("OUT_DIR").unwrap();
+    let source = format!("{}/../../bench/plain_relay.c", env::var("CARGO_MANIFEST_DIR").unwrap());
+    let object = format!("{out}/plain_relay.o");
+    let archive = format!("{out}/libplain_relay.a");
+    for (program, words) in [
+        ("gcc", ["-std=c11", "-O2", "-c", &source, "-o", &object].as_slice()),
+        ("ar", ["rcs", &archive, &object].as_slice()),
+    ] {
+        assert!(Command::new(program).args(words).status().unwrap().success(), "{program}");
+    }
+    println!("cargo:rustc-link-search=native={out}");
+    println!("cargo:rerun-if-changed={source}");
+}
+
 /// A module for each variant, and the list of them.
 fn variants() -> String {
     let mut text = String::new();
     let mut list = String::new();
-    for (i, variant) in VARIANTS.iter().enumerate() {
+    let relay_variants = if relay() { RELAY_VARIANTS } else { &[] };
+    let all = || VARIANTS.iter().chain(relay_variants);
+    for (i, variant) in all().enumerate() {
         writeln!(text, "#[allow(warnings, clippy::all)]\nmod variant_{i} {{").unwrap();
         writeln!(text, "pub use independent::rules::answers;").unwrap();
         let copied = FILES.iter().find(|(file, _)| *file == variant.file).unwrap().1;
@@ -53,7 +81,7 @@ fn variants() -> String {
         writeln!(text, "}}").unwrap();
         writeln!(list, "    ({:?}, yardstick!(variant_{i})),", variant.name).unwrap();
     }
-    let count = VARIANTS.len();
+    let count = all().count();
     writeln!(text, "pub static VARIANTS: [(&str, Yardstick); {count}] = [\n{list}];").unwrap();
     text
 }

@@ -2,10 +2,9 @@
 //! signatures, so that single calls of it can be counted.
 
 use crate::rules::answers::{
-    Codes, Content, Lookup, Origin, Part, Refusal, RollCall, Several, EMPTY,
+    Codes, Content, Listed, Lookup, Origin, Part, Refusal, RollCall, Several, EMPTY,
 };
-use crate::rules::relay::{self, Listed};
-use crate::rules::{groups, index, reading, vendor, writing};
+use crate::rules::{groups, index, reading, relay, vendor, writing};
 use std::slice;
 
 /// status: 0 absent, 1 unknown, 2 refused, 3 a number, 4 a part, 5 broken.

@@ -2,9 +2,8 @@
 //! implementation alone. The rules for 82 in messages and sheets hold with the
 //! feature `relay`; the calls of sub-options are there without it too.
 
-use crate::rules::answers::{Codes, Content, Field, Kind, Lookup, Origin, Part, Refusal};
-use crate::rules::relay::{self, Listed};
-use crate::rules::{kinds, reading, writing};
+use crate::rules::answers::{Codes, Content, Field, Kind, Listed, Lookup, Origin, Part, Refusal};
+use crate::rules::{kinds, reading, relay, writing};
 
 const ALL: Codes = Codes([u64::MAX; 4]);
 

@@ -91,6 +91,16 @@ pub struct RollCall {
     pub lowest: u32,
 }
 
+/// What the reader of sub-options answers: how many bytes it gave, and "circuit id (1) and
+/// remote id (2), each absent or the first of that code, as its data's start and
+/// length in the bytes given".
+#[derive(Clone, Copy, PartialEq, Eq, Debug)]
+pub struct Listed {
+    pub size: usize,
+    pub circuit: Option<Part>,
+    pub remote: Option<Part>,
+}
+
 /// A set of codes: "code c standing at bit c mod 64 of word c div 64".
 #[derive(Clone, Copy, PartialEq, Eq, Debug, Default)]
 pub struct Codes(pub [u64; 4]);

@@ -1,7 +1,7 @@
 //! "Relay information" (request 09 of document 02): what option 82 holds, as in
 //! RFC 3046.
 
-use super::answers::{refuse, Part, Refusal};
+use super::answers::{refuse, Listed, Part, Refusal};
 
 const CIRCUIT_ID: u8 = 1;
 const REMOTE_ID: u8 = 2;
@@ -10,16 +10,6 @@ const LONGEST_SHEET: usize = 4096;
 const LONGEST_DATA: usize = 255;
 /// "gives at most 255 bytes", as in request 05.
 const MOST: usize = 255;
-
-/// What the reader answers: how many bytes it gave, and "circuit id (1) and
-/// remote id (2), each absent or the first of that code, as its data's start and
-/// length in the bytes given".
-#[derive(Clone, Copy, PartialEq, Eq, Debug)]
-pub struct Listed {
-    pub size: usize,
-    pub circuit: Option<Part>,
-    pub remote: Option<Part>,
-}
 
 /// Meets the sub-options in order, each with its data's start: "sub-options of
 /// code, length, data; no pads, no END; any sub-code, in order".

@@ -1,6 +1,9 @@
-//! The library under test: three static archives.
+//! The library under test: three static archives. They do not have request 09 yet:
+//! with the feature `relay` this package's own exports stand in their place, and
+//! for the two calls of sub-options plain C (`bench/plain_relay.c`).
 
-use super::sides::Subject;
+use super::sides::{own_exports, Subject};
+use independent::rules::kinds::RELAY;
 use independent::boundary::{Address, Answer, Checked, Extent, Filled, Present, Wrote};
 
 #[link(name = "dhcpopt_reader", kind = "static")]
@@ -57,7 +60,36 @@ extern "C" {
     ) -> Answer;
 }
 
+#[cfg(feature = "relay")]
+#[link(name = "plain_relay", kind = "static")]
+extern "C" {
+    fn plain_relay_records(
+        bytes: *const u8,
+        n: usize,
+        out: *mut u8,
+        room: usize,
+    ) -> independent::boundary::Relay;
+    fn plain_relay_write(sheet: *const u8, n: usize, out: *mut u8, room: usize) -> Filled;
+}
+
+#[cfg(feature = "relay")]
+fn stand_in() -> Subject {
+    Subject {
+        relay_records: plain_relay_records,
+        relay_write: plain_relay_write,
+        ..own_exports()
+    }
+}
+
+#[cfg(not(feature = "relay"))]
+fn stand_in() -> Subject {
+    own_exports()
+}
+
 pub fn library() -> Subject {
+    if RELAY {
+        return stand_in();
+    }
     Subject {
         lookup: dhcpopt_lookup,
         data: dhcpopt_data,
@@ -69,6 +101,9 @@ pub fn library() -> Subject {
         write: dhcpopt_write,
         vendor_records: dhcpopt_vendor_records,
         vendor_write: dhcpopt_vendor_write,
+        // Not asked without the feature.
+        relay_records: stand_in().relay_records,
+        relay_write: stand_in().relay_write,
         index_build: dhcpopt_index_build,
         index_lookup: dhcpopt_index_lookup,
         check: dhcpopt_check_grouped,

@@ -10,6 +10,7 @@ mod groups;
 mod lent;
 pub mod library;
 mod messages;
+mod relay;
 mod rng;
 mod sheets;
 pub mod sides;

@@ -24,7 +24,8 @@ enum {
     PLAIN_UNSIGNED32,
     PLAIN_SIGNED32,
     PLAIN_TEXT,
-    PLAIN_OPAQUE
+    PLAIN_OPAQUE,
+    PLAIN_RELAY /* request 09, with PLAIN_RELAY_ROW */
 };
 
 /* What a call does not give is 0. A refusal is 01's number, 0 if there is none. */

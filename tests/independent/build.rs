@@ -21,7 +21,7 @@ const FILES: [(&str, &[&str]); 7] = [
 fn main() {
     link();
     if relay() {
-        plain_relay();
+        plain();
     }
     let generated = Path::new(&env::var("OUT_DIR").unwrap()).join("variants.rs");
     fs::write(generated, variants()).unwrap();
@@ -44,20 +44,26 @@ fn relay() -> bool {
     env::var_os("CARGO_FEATURE_RELAY").is_some()
 }
 
-/// Compiles `bench/plain_relay.c`, which stands in for the library.
-fn plain_relay() {
+/// Compiles plain C with the row of 82, which stands in for the library.
+fn plain() {
     let out = env::var("OUT_DIR").unwrap();
-    let source = format!("{}/../../bench/plain_relay.c", env::var("CARGO_MANIFEST_DIR").unwrap());
-    let object = format!("{out}/plain_relay.o");
-    let archive = format!("{out}/libplain_relay.a");
-    for (program, words) in [
-        ("gcc", ["-std=c11", "-O2", "-c", &source, "-o", &object].as_slice()),
-        ("ar", ["rcs", &archive, &object].as_slice()),
-    ] {
-        assert!(Command::new(program).args(words).status().unwrap().success(), "{program}");
+    let bench = format!("{}/../../bench", env::var("CARGO_MANIFEST_DIR").unwrap());
+    let mut objects = Vec::new();
+    for name in ["plain", "plain_index", "plain_write", "plain_relay"] {
+        let (source, object) = (format!("{bench}/{name}.c"), format!("{out}/{name}.o"));
+        run("gcc", &["-std=c11", "-O2", "-DPLAIN_RELAY_ROW", "-c", &source, "-o", &object]);
+        objects.push(object);
     }
+    let archive = format!("{out}/libplain.a");
+    let mut words = vec!["rcs", &archive];
+    words.extend(objects.iter().map(String::as_str));
+    run("ar", &words);
     println!("cargo:rustc-link-search=native={out}");
-    println!("cargo:rerun-if-changed={source}");
+    println!("cargo:rerun-if-changed={bench}");
+}
+
+fn run(program: &str, words: &[&str]) {
+    assert!(Command::new(program).args(words).status().unwrap().success(), "{program}");
 }
 
 /// A module for each variant, and the list of them.

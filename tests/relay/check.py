@@ -3,6 +3,7 @@
 
     check.py            the cases
     check.py changes    which cases of crates/vectors and crates/sheets the row of 82 changes
+    check.py lines      the cases on standard input, which `independent lines SEED N` of tests/independent prints with the answers of its rules
 """
 
 import importlib.util
@@ -203,8 +204,55 @@ def changes():
         print(f"{name}: {count} of {len(given)} cases change")
 
 
+# --- Generated cases, with the answers of tests/independent -------------------------------------------------------------
+
+def id_words(part):
+    return "absent" if part is None else "{} {}".format(*part)
+
+
+def answer(which, *words):
+    """What a line is to end with. A lent buffer holds 160, 161, 162 and so on."""
+    *numbers, text = words
+    data, numbers = bytes.fromhex(text), [int(n) for n in numbers]
+    old = bytes((160 + i) & 255 for i in range(numbers[-1] if numbers else 0))
+    try:
+        if which == "lookup":
+            return VECTORS.answer(data, range(1, 255), 82)
+        if which == "write":
+            plan, m = SETTINGS.write(data, old, numbers[0])
+            return f"plan {plan} {m.hex()}"
+        if which == "make":
+            given = write_sub_options(data, len(old))
+            return f"given {len(given)} {(given + old[len(given):]).hex()}"
+        given, circuit, remote = read_sub_options(data, len(old))
+        return f"given {len(given)} {(given + old[len(given):]).hex()} circuit {id_words(circuit)} remote {id_words(remote)}"
+    except Refused as refusal:
+        return "refused {} {}".format(*refusal.args)
+
+
+def lines():
+    """How many of each answer, and how many differ."""
+    seen, differing = {}, 0
+    for line in sys.stdin:
+        case, _, said = line.rstrip("\n").partition(" | ")
+        which, *words = case.split(" ")
+        have = answer(which, *words)
+        head = " ".join(have.split(" ")[:2 if have[0] in "rbp" and not have.startswith("relay") else 1])
+        seen[which, head] = seen.get((which, head), 0) + 1
+        if have != said:
+            differing += 1
+            if differing <= 20:
+                print(f"{case}\nhere: {have}\nthere: {said}")
+    for (which, head), count in sorted(seen.items()):
+        print(f"{which}: {head}: {count}")
+    print(f"{sum(seen.values())} cases, {differing} differ")
+    return 1 if differing else 0
+
+
 def main():
     switch_on()
+    if sys.argv[1:] == ["lines"]:
+        return lines()
     if sys.argv[1:] == ["changes"]:
         changes()
         return 0

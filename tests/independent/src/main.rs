@@ -8,7 +8,7 @@ use std::time::Instant;
 use tester::compare::Run;
 use tester::library::library;
 use tester::sides::independent_rules;
-use tester::{broken, captures, edges};
+use tester::{broken, captures, edges, lines};
 
 const SHORT_SEEDS: [u64; 4] = [1, 2, 3, 4];
 const SHORT_CASES: u64 = 525_000;
@@ -25,6 +25,7 @@ usage: independent [MODE]
   pieces N         N million messages, each with an option in pieces over two fields or three
   grouped N        N million grouped files, each with a class, and as many old sheets
   relay N          N million option 82s and as many sheets of sub-options (feature `relay`)
+  lines SEED N     N generated cases of request 09 with this package's answers (feature `relay`)
   captures [DIR]   the files *.bin of a folder (../vectors/captures)
   broken           wrong variants and wrong subjects, each of which has to be detected
   case SEED INDEX  one generated case";
@@ -38,6 +39,10 @@ fn main() {
         ["pieces", n] => n.parse().map_or_else(|_| usage(), pieces),
         ["grouped", n] => n.parse().map_or_else(|_| usage(), grouped),
         ["relay", n] => n.parse().map_or_else(|_| usage(), relayed),
+        ["lines", seed, n] => match (seed.parse(), n.parse()) {
+            (Ok(seed), Ok(n)) => printed(seed, n),
+            _ => usage(),
+        },
         ["captures"] => captured(Path::new("../vectors/captures")),
         ["captures", folder] => captured(Path::new(folder)),
         ["broken"] => broken::run(),
@@ -137,6 +142,11 @@ fn relayed(millions: u64) -> i32 {
     println!("{:.1} seconds", start.elapsed().as_secs_f64());
     run.counts.print_relay();
     end(&run)
+}
+
+fn printed(seed: u64, cases: u64) -> i32 {
+    lines::print(seed, cases);
+    0
 }
 
 fn cases(run: &mut Run, seeds: impl IntoIterator<Item = u64>, count: u64) {

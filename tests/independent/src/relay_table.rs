@@ -59,7 +59,8 @@ fn reader_names_circuit_and_remote() {
     // "each absent or the first of that code"
     let answer = listed("05 01 09", "05 00 01 09");
     assert_eq!(answer, Listed { size: 4, circuit: None, remote: None });
-    let answer = listed("02 00 02 01 05 01 01 06 01 00", "02 00 00 02 00 01 05 01 00 01 06 01 00 00");
+    let answer =
+        listed("02 00 02 01 05 01 01 06 01 00", "02 00 00 02 00 01 05 01 00 01 06 01 00 00");
     assert_eq!(answer, Listed { size: 14, circuit: part(7, 1), remote: part(2, 0) });
     // A circuit id of length 0 is present, and the first of that code.
     let answer = listed("01 00 01 01 07", "01 00 00 01 00 01 07");
@@ -187,6 +188,11 @@ fn lookup_of_82() {
     // Not known, it is unknown.
     let unknown = reading::lookup(&message("52 01 01 FF"), Codes::default(), 82);
     assert_eq!(unknown, found(Content::Unknown(1), None, 0));
+    // The data call gives its bytes, broken or not; the text call none.
+    let data = |options: &str| reading::data(&message(options), 82);
+    assert_eq!(Some(data("52 04 01 02 0A 0B FF")), part(242, 4));
+    assert_eq!(Some(data("52 01 01 FF")), part(242, 1));
+    assert_eq!(Some(reading::text(&message("52 02 61 00 FF"), ALL, 82)), part(0, 0));
     // "Lookups judge the joined bytes"
     assert_eq!(of_82("52 01 01 52 03 02 0A 0B FF"), found(kind(4), Some(4), 0));
     assert_eq!(of_82("52 00 52 02 09 00 FF"), found(kind(2), Some(2), 0));

@@ -1,10 +1,10 @@
 //! The library under test: three static archives. They do not have request 09 yet:
-//! with the feature `relay` this package's own exports stand in their place, and
-//! for the two calls of sub-options plain C (`bench/plain_relay.c`).
+//! with the feature `relay` plain C (`bench/plain*.c`) stands in their place where a
+//! code's row or sub-options count, and elsewhere this package's own exports.
 
 use super::sides::{own_exports, Subject};
-use independent::rules::kinds::RELAY;
 use independent::boundary::{Address, Answer, Checked, Extent, Filled, Present, Wrote};
+use independent::rules::kinds::RELAY;
 
 #[link(name = "dhcpopt_reader", kind = "static")]
 extern "C" {
@@ -61,22 +61,66 @@ extern "C" {
 }
 
 #[cfg(feature = "relay")]
-#[link(name = "plain_relay", kind = "static")]
-extern "C" {
-    fn plain_relay_records(
-        bytes: *const u8,
+mod plain {
+    use independent::boundary::{Answer, Filled, Relay, Wrote};
+
+    #[link(name = "plain", kind = "static")]
+    extern "C" {
+        fn plain_lookup(m: *const u8, n: usize, known: *const u64, code: u8) -> Answer;
+        fn plain_index_lookup(
+            m: *const u8,
+            n: usize,
+            index: *const u16,
+            count: usize,
+            known: *const u64,
+            code: u8,
+        ) -> Answer;
+        pub fn plain_write(
+            sheet: *const u8,
+            n: usize,
+            m: *mut u8,
+            room: usize,
+            permission: u8,
+        ) -> Wrote;
+        pub fn plain_relay_records(b: *const u8, n: usize, out: *mut u8, room: usize) -> Relay;
+        pub fn plain_relay_write(s: *const u8, n: usize, out: *mut u8, room: usize) -> Filled;
+    }
+
+    pub unsafe extern "C" fn lookup(
+        m: *const u8,
         n: usize,
-        out: *mut u8,
-        room: usize,
-    ) -> independent::boundary::Relay;
-    fn plain_relay_write(sheet: *const u8, n: usize, out: *mut u8, room: usize) -> Filled;
+        k0: u64,
+        k1: u64,
+        k2: u64,
+        k3: u64,
+        code: u8,
+    ) -> Answer {
+        plain_lookup(m, n, [k0, k1, k2, k3].as_ptr(), code)
+    }
+
+    pub unsafe extern "C" fn index_lookup(
+        m: *const u8,
+        n: usize,
+        index: *const u16,
+        count: usize,
+        k0: u64,
+        k1: u64,
+        k2: u64,
+        k3: u64,
+        code: u8,
+    ) -> Answer {
+        plain_index_lookup(m, n, index, count, [k0, k1, k2, k3].as_ptr(), code)
+    }
 }
 
 #[cfg(feature = "relay")]
 fn stand_in() -> Subject {
     Subject {
-        relay_records: plain_relay_records,
-        relay_write: plain_relay_write,
+        lookup: plain::lookup,
+        index_lookup: plain::index_lookup,
+        write: plain::plain_write,
+        relay_records: plain::plain_relay_records,
+        relay_write: plain::plain_relay_write,
         ..own_exports()
     }
 }

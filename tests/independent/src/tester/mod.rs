@@ -9,6 +9,7 @@ mod index;
 mod groups;
 mod lent;
 pub mod library;
+pub mod lines;
 mod messages;
 mod relay;
 mod rng;

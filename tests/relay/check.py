@@ -131,6 +131,13 @@ def named(name, part):
     return f"{name} absent\n" if part is None else "{} {} {}\n".format(name, *part)
 
 
+def back(given, sheet):
+    try:
+        return "same" if read_sub_options(given, len(sheet))[0] == sheet else "differs"
+    except Refused as refusal:
+        return "refused {} {}".format(*refusal.args)
+
+
 def call(which, old, data):
     try:
         given, *ids = (write_sub_options(data, len(old)),) if which else read_sub_options(data, len(old))
@@ -138,7 +145,7 @@ def call(which, old, data):
         return "refused {} {}".format(*refusal.args) + f" rest sum {mixed(old)}\n-\n"
     text = f"given {len(given)} {given.hex()} rest sum {mixed(old[len(given):])}\n"
     if which:
-        return text + f"back {'same' if read_sub_options(given, len(data))[0] == data else 'differs'}\n-\n"
+        return text + f"back {back(given, data)}\n-\n"
     return text + named("circuit", ids[0]) + named("remote", ids[1]) + "-\n"
 
 
@@ -163,7 +170,7 @@ def compare(name, cases, printed):
 
 
 def captured():
-    """The messages of other implementations: the lookup of 82, and the sub-options as tshark shows them."""
+    """The messages of other implementations: the lookup of 82, and the sub-options as tshark shows them. And 82 where it is not known."""
     spec = importlib.util.spec_from_file_location("relay_make", HERE / "make.py")
     make = importlib.util.module_from_spec(spec)
     spec.loader.exec_module(make)
@@ -174,11 +181,16 @@ def captured():
         if (option.first.at, VECTORS.look_up(range(1, 255), 82, option), sub) != (at, said, shown):
             wrong += 1
             print(f"{name}: {option.first.at} {VECTORS.look_up(range(1, 255), 82, option)} {sub}")
+    for why, m, said in make.NOT_KNOWN:
+        have = VECTORS.answer(m, [code for code in range(1, 255) if code != 82], 82)
+        if have != said:
+            wrong += 1
+            print(f"82 not known, {why}: {have}")
     held = [path.stem for path in sorted(CAPTURES.glob("*.bin")) if holds_82(path.read_bytes())]
     if held != [name for name, *_ in make.CAPTURED]:
         wrong += 1
         print(f"82 is in {held}")
-    return len(make.CAPTURED), wrong
+    return len(make.CAPTURED) + len(make.NOT_KNOWN), wrong
 
 
 def holds_82(m):

@@ -218,6 +218,15 @@ MESSAGES = [
      "accepted 2 | 82 242 255 options 0 broken 8 240 several 510 | 82 499 255 options 257 +"),
 ]
 
+# "A code is known when its bit is set and it has a row" (document 01): the lookup of 82 where every other code is known, and 82 is not.
+NOT_KNOWN = [
+    ("right", message(f"52 07 {BOTH} FF"), "unknown 7 options 0 242"),
+    ("broken", message("52 01 01 FF"), "unknown 1 options 0 242"),
+    ("no data", message("52 00 FF"), "unknown 0 options 0 242"),
+    ("two pieces", message("52 01 01 00 52 01 00 FF"), "unknown 2 options 0 242 several 2"),
+    ("absent", message("51 00 FF"), "absent"),
+]
+
 # Messages of other implementations (tests/vectors/captures), with the sub-options as tshark 4.0.17 shows them: the name, the place of the first code byte, what
 # the lookup says, and for each sub-option its code and data.
 CAPTURED = [

@@ -114,8 +114,8 @@ static int read_one(const reading *t)
     size_t n = bytes(in, t->in), size = begin(t->out);
     plain_relay r = plain_relay_records(in, n, out, t->room);
     int right = r.refusal == t->refusal && r.place == t->place && r.size == size && memcmp(out, expected, SIZE) == 0;
-    right &= r.circuit == (t->circuit_start > 0) && r.circuit_start == t->circuit_start && r.circuit_length == t->circuit_length;
-    right &= r.remote == (t->remote_start > 0) && r.remote_start == t->remote_start && r.remote_length == t->remote_length;
+    right &= r.circuit_start == t->circuit_start && r.circuit_length == t->circuit_length;
+    right &= r.remote_start == t->remote_start && r.remote_length == t->remote_length;
     if (!right)
         fprintf(stderr, "check_relay: reading `%s`, room %zu: refusal %u, size %zu, place %zu\n", t->in, t->room, r.refusal, r.size, r.place);
     return !right;

@@ -25,7 +25,7 @@ enum {
     PLAIN_SIGNED32,
     PLAIN_TEXT,
     PLAIN_OPAQUE,
-    PLAIN_RELAY /* request 09, with PLAIN_RELAY_ROW */
+    PLAIN_RELAY
 };
 
 /* What a call does not give is 0. A refusal is 01's number, 0 if there is none. */
@@ -58,9 +58,9 @@ typedef struct {
     size_t size, place;
 } plain_filled;
 
-/* Request 09: the records of sub-options. circuit, remote: 1 where there is such a one; start and length are those of its data. */
+/* Request 09: the records of sub-options; start and length of the data of circuit id and remote id, a start of 0 where there is none. */
 typedef struct {
-    uint32_t refusal, circuit, remote;
+    uint32_t refusal;
     size_t size, place, circuit_start, circuit_length, remote_start, remote_length;
 } plain_relay;
 

@@ -1,4 +1,4 @@
-/* Relay information, option 82 (RFC 3046; request 09 of document 02). Not yet a measure: the library lacks these calls. */
+/* Relay information, option 82 (RFC 3046; request 09 of document 02). */
 #include "plain.h"
 
 #include <string.h>
@@ -14,13 +14,11 @@ plain_relay plain_relay_records(const uint8_t *bytes, size_t n, uint8_t *out, si
     for (size_t i = 0; i < n; i += bytes[i + 1] + 2u) {
         if (n - i < 2 || n - i - 2 < bytes[i + 1])
             return (plain_relay){.refusal = 8, .place = i};
-        if (bytes[i] == CIRCUIT_ID && !r.circuit) {
-            r.circuit = 1;
+        if (bytes[i] == CIRCUIT_ID && !r.circuit_start) {
             r.circuit_start = i + 2;
             r.circuit_length = bytes[i + 1];
         }
-        if (bytes[i] == REMOTE_ID && !r.remote) {
-            r.remote = 1;
+        if (bytes[i] == REMOTE_ID && !r.remote_start) {
             r.remote_start = i + 2;
             r.remote_length = bytes[i + 1];
         }

@@ -16,9 +16,7 @@ static plain_wrote judge(const uint8_t *s, size_t n, size_t *size)
     uint64_t seen[4] = {0};
     size_t taken = n, router = 0;
     bool late = false; /* tag 1 stands behind tag 3 */
-#ifdef PLAIN_RELAY_ROW
     size_t relay = 0, relay_end = n; /* 82, and where it ends: not before the sheet does */
-#endif
     for (size_t i = 0; i < n;) {
         if (n - i < HEAD)
             return refused(12, i);
@@ -44,22 +42,18 @@ static plain_wrote judge(const uint8_t *s, size_t n, size_t *size)
             router = i;
         if (c == MASK)
             late = seen[0] >> ROUTER & 1;
-#ifdef PLAIN_RELAY_ROW
         if (kind == PLAIN_RELAY) {
             relay = i;
             relay_end = i + HEAD + length;
         }
-#endif
         taken--; /* an option's length takes one byte, a record's two */
         if (length > LONGEST_PIECE)
             taken += (length - 1) / LONGEST_PIECE * 2; /* a head for each piece but the first */
         i += HEAD + length;
     }
     *size = taken;
-#ifdef PLAIN_RELAY_ROW
     if (!late && relay_end < n)
         return refused(23, relay);
-#endif
     return late ? refused(14, router) : refused(0, 0);
 }
 

@@ -2,7 +2,7 @@
 //! rules that the mode `broken` tries.
 
 use std::fmt::Write;
-use std::{env, fs, path::Path, process::Command};
+use std::{env, fs, path::Path};
 
 include!("build/variants.rs");
 include!("build/relay_variants.rs");
@@ -20,9 +20,6 @@ const FILES: [(&str, &[&str]); 7] = [
 
 fn main() {
     link();
-    if relay() {
-        plain();
-    }
     let generated = Path::new(&env::var("OUT_DIR").unwrap()).join("variants.rs");
     fs::write(generated, variants()).unwrap();
     for path in ["build.rs", "build", "src/rules"] {
@@ -39,39 +36,11 @@ fn link() {
     }
 }
 
-/// Whether request 09 holds.
-fn relay() -> bool {
-    env::var_os("CARGO_FEATURE_RELAY").is_some()
-}
-
-/// Compiles plain C with the row of 82, which stands in for the library.
-fn plain() {
-    let out = env::var("OUT_DIR").unwrap();
-    let bench = format!("{}/../../bench", env::var("CARGO_MANIFEST_DIR").unwrap());
-    let mut objects = Vec::new();
-    for name in ["plain", "plain_index", "plain_write", "plain_relay"] {
-        let (source, object) = (format!("{bench}/{name}.c"), format!("{out}/{name}.o"));
-        run("gcc", &["-std=c11", "-O2", "-DPLAIN_RELAY_ROW", "-c", &source, "-o", &object]);
-        objects.push(object);
-    }
-    let archive = format!("{out}/libplain.a");
-    let mut words = vec!["rcs", &archive];
-    words.extend(objects.iter().map(String::as_str));
-    run("ar", &words);
-    println!("cargo:rustc-link-search=native={out}");
-    println!("cargo:rerun-if-changed={bench}");
-}
-
-fn run(program: &str, words: &[&str]) {
-    assert!(Command::new(program).args(words).status().unwrap().success(), "{program}");
-}
-
 /// A module for each variant, and the list of them.
 fn variants() -> String {
     let mut text = String::new();
     let mut list = String::new();
-    let relay_variants = if relay() { RELAY_VARIANTS } else { &[] };
-    let all = || VARIANTS.iter().chain(relay_variants);
+    let all = || VARIANTS.iter().chain(RELAY_VARIANTS);
     for (i, variant) in all().enumerate() {
         writeln!(text, "#[allow(warnings, clippy::all)]\nmod variant_{i} {{").unwrap();
         writeln!(text, "pub use independent::rules::answers;").unwrap();

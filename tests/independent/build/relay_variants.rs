@@ -1,10 +1,10 @@
-// Wrong variants of request 09, tried with the feature `relay`.
+// Wrong variants of request 09.
 
 const RELAY_VARIANTS: &[Variant] = &[
     // The row.
-    variant!("82 is unknown", "kinds.rs", "RELAY_INFORMATION if RELAY =>", "RELAY_INFORMATION if false =>"),
+    variant!("82 is unknown", "kinds.rs", "RELAY_INFORMATION => Some(Kind::Relay)", "RELAY_INFORMATION => None"),
     variant!("82 is opaque", "kinds.rs", "Some(Kind::Relay),", "Some(Kind::Opaque),"),
-    variant!("83 has the row of 82", "kinds.rs", "        RELAY_INFORMATION if RELAY =>", "        RELAY_INFORMATION | 83 if RELAY =>"),
+    variant!("83 has the row of 82", "kinds.rs", "        RELAY_INFORMATION =>", "        RELAY_INFORMATION | 83 =>"),
     variant!("82 is not judged", "kinds.rs", "    if kind == Kind::Relay && !sub_options_fill(data) {", "    if false {"),
     variant!("82 of length 0", "kinds.rs", "Kind::Relay => length >= 2", "Kind::Relay => true"),
     variant!("82 broken by 9", "kinds.rs", "    if kind == Kind::Relay && !sub_options_fill(data) {\n        return Err(Fault::Length);", "    if kind == Kind::Relay && !sub_options_fill(data) {\n        return Err(Fault::Value);"),

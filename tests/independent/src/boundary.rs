@@ -74,40 +74,30 @@ pub struct Wrote {
     pub place: usize,
 }
 
-/// What a reader of sub-options answers. circuit and remote: 1 where the
-/// sub-option is there.
+/// What a reader of sub-options answers. An id that is absent has start 0: the data
+/// of a sub-option never stand before 2.
 #[repr(C)]
 #[derive(Clone, Copy, PartialEq, Eq, Debug, Default)]
 pub struct Relay {
     pub refusal: u32,
-    pub circuit: u32,
-    pub remote: u32,
     pub size: usize,
     pub place: usize,
-    pub circuit_start: usize,
-    pub circuit_length: usize,
-    pub remote_start: usize,
-    pub remote_length: usize,
+    pub circuit: Extent,
+    pub remote: Extent,
 }
 
 impl From<Result<Listed, Refusal>> for Relay {
     fn from(result: Result<Listed, Refusal>) -> Relay {
-        let listed = match result {
-            Ok(listed) => listed,
-            Err(r) => return Relay { refusal: r.number, place: r.place, ..Relay::default() },
-        };
-        let circuit = listed.circuit.unwrap_or(EMPTY);
-        let remote = listed.remote.unwrap_or(EMPTY);
-        Relay {
-            refusal: 0,
-            circuit: u32::from(listed.circuit.is_some()),
-            remote: u32::from(listed.remote.is_some()),
-            size: listed.size,
-            place: 0,
-            circuit_start: circuit.start,
-            circuit_length: circuit.length,
-            remote_start: remote.start,
-            remote_length: remote.length,
+        let named = |id: Option<Part>| id.unwrap_or(EMPTY).into();
+        match result {
+            Ok(listed) => Relay {
+                refusal: 0,
+                size: listed.size,
+                place: 0,
+                circuit: named(listed.circuit),
+                remote: named(listed.remote),
+            },
+            Err(r) => Relay { refusal: r.number, place: r.place, ..Relay::default() },
         }
     }
 }

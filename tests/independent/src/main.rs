@@ -24,8 +24,8 @@ usage: independent [MODE]
   long N           N million messages and sheets of other seeds
   pieces N         N million messages, each with an option in pieces over two fields or three
   grouped N        N million grouped files, each with a class, and as many old sheets
-  relay N          N million option 82s and as many sheets of sub-options (feature `relay`)
-  lines SEED N     N generated cases of request 09 with this package's answers (feature `relay`)
+  relay N          N million option 82s and as many sheets of sub-options
+  lines SEED N     N generated cases of request 09 with this package's answers
   captures [DIR]   the files *.bin of a folder (../vectors/captures)
   broken           wrong variants and wrong subjects, each of which has to be detected
   case SEED INDEX  one generated case";

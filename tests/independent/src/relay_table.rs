@@ -1,6 +1,5 @@
 //! Request 09 of document 02, "Relay information", case by case, against this
-//! implementation alone. The rules for 82 in messages and sheets hold with the
-//! feature `relay`; the calls of sub-options are there without it too.
+//! implementation alone.
 
 use crate::rules::answers::{Codes, Content, Field, Kind, Listed, Lookup, Origin, Part, Refusal};
 use crate::rules::{kinds, reading, relay, writing};
@@ -167,7 +166,6 @@ fn found(content: Content, whole: Option<usize>, offset: usize) -> Result<Lookup
 }
 
 #[test]
-#[cfg(feature = "relay")]
 fn lookup_of_82() {
     let of_82 = |options: &str| reading::lookup(&message(options), ALL, 82);
     let broken = |place| Content::Broken(Refusal { number: 8, place });
@@ -200,7 +198,6 @@ fn lookup_of_82() {
     assert_eq!(of_82("52 00 52 00 FF"), found(broken(240), Some(0), 0));
 }
 
-#[cfg(feature = "relay")]
 fn wrote(sheet: &str, room: usize) -> Result<u8, Refusal> {
     let mut buffer = vec![7; room];
     let wrote = writing::write(&hex(sheet), &mut buffer, 0);
@@ -209,7 +206,6 @@ fn wrote(sheet: &str, room: usize) -> Result<u8, Refusal> {
 }
 
 #[test]
-#[cfg(feature = "relay")]
 fn sheets_with_82() {
     let refused = |number, place| Err(Refusal { number, place });
     // "In a settings sheet 82 must come last."
@@ -232,13 +228,4 @@ fn sheets_with_82() {
     // A long one is cut into pieces.
     let long = "52 01 03 01 FF 61*255 02 00";
     assert_eq!(wrote(long, 600), Ok(0));
-}
-
-#[test]
-#[cfg(not(feature = "relay"))]
-fn without_request_09() {
-    let of_82 = reading::lookup(&message("52 01 01 FF"), ALL, 82);
-    assert_eq!(of_82, found(Content::Unknown(1), None, 0));
-    let sheet = hex("52 00 01 01 35 00 01 05");
-    assert_eq!(writing::write(&sheet, &mut [7; 300], 0), Ok(0));
 }

@@ -20,8 +20,6 @@ impl Fault {
     }
 }
 
-/// Whether request 09 holds. The library does not have it yet.
-pub const RELAY: bool = cfg!(feature = "relay");
 /// "option 82 of RFC 3046"
 pub const RELAY_INFORMATION: u8 = 82;
 
@@ -54,7 +52,7 @@ const fn row(code: u8) -> Option<Kind> {
         2 => Some(Kind::Signed32),
         12 | 14 | 15 | 17 | 18 | 40 | 56 | 64 | 66 | 67 => Some(Kind::Text),
         43 | 47 | 55 | 60 | 61 => Some(Kind::Opaque),
-        RELAY_INFORMATION if RELAY => Some(Kind::Relay),
+        RELAY_INFORMATION => Some(Kind::Relay),
         _ => None,
     }
 }

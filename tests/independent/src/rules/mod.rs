@@ -5,8 +5,8 @@
 #![forbid(unsafe_code)]
 
 pub mod answers;
-pub mod index;
 pub mod groups;
+pub mod index;
 pub mod kinds;
 pub mod reading;
 pub mod relay;

@@ -103,7 +103,7 @@ fn judge_sheet(sheet: &[u8]) -> Result<usize, Refusal> {
         match record.tag {
             1 => tag_3_before_1 = tag_3,
             3 => tag_3 = Some(place),
-            kinds::RELAY_INFORMATION if kinds::RELAY => tag_82 = Some(place),
+            kinds::RELAY_INFORMATION => tag_82 = Some(place),
             _ => (),
         }
         size += record.data.len() + 2 * piece_count(record.data.len());

@@ -6,7 +6,6 @@ use super::compare::Run;
 use super::library::library;
 use super::sides::{independent_rules, own_exports, yardstick, Subject, Yardstick};
 use independent::boundary::{self, Answer, Extent, Filled, Present, Relay, Wrote};
-use independent::rules::kinds::RELAY;
 use std::panic;
 
 include!(concat!(env!("OUT_DIR"), "/variants.rs"));
@@ -24,9 +23,7 @@ pub fn run() -> i32 {
         failed += usize::from(found.is_some());
     }
     let mut subjects = subjects();
-    if RELAY {
-        subjects.extend(relay_subjects());
-    }
+    subjects.extend(relay_subjects());
     panic::set_hook(Box::new(|_| ()));
     for &(name, rules) in &VARIANTS {
         failed += usize::from(!told("variant", name, library(), rules));
@@ -138,9 +135,9 @@ fn relay_subjects() -> Vec<(&'static str, Subject)> {
         ("refused relay records touch a byte", Subject { relay_records: relay_touches, ..own }),
         ("refused relay records with a circuit id", Subject { relay_records: relay_id, ..own }),
         ("relay records with a place", Subject { relay_records: relay_placed, ..own }),
-        ("no circuit id, with a start", Subject { relay_records: no_circuit, ..own }),
+        ("no circuit id, with a length", Subject { relay_records: no_circuit, ..own }),
         ("no remote id, with a start", Subject { relay_records: no_remote, ..own }),
-        ("circuit id as another number", Subject { relay_records: circuit_as_two, ..own }),
+        ("circuit id and remote id changed", Subject { relay_records: changed_ids, ..own }),
         ("an empty remote id without its start", Subject { relay_records: empty_remote, ..own }),
         ("relay write past the lent ones", Subject { relay_write: sub_options_past, ..own }),
         ("relay write changes the sheet", Subject { relay_write: sub_options_change, ..own }),
@@ -153,12 +150,7 @@ fn relay_subjects() -> Vec<(&'static str, Subject)> {
 /// not do.
 macro_rules! wrong_relay {
     ($name:ident, |$m:ident, $out:ident, $room:ident, $answer:ident| $done:expr) => {
-        unsafe extern "C" fn $name(
-            $m: *const u8,
-            n: usize,
-            $out: *mut u8,
-            $room: usize,
-        ) -> Relay {
+        unsafe extern "C" fn $name($m: *const u8, n: usize, $out: *mut u8, $room: usize) -> Relay {
             #[allow(unused_mut)]
             let mut $answer = boundary::independent_relay_records($m, n, $out, $room);
             $done;
@@ -179,31 +171,34 @@ wrong_relay!(relay_touches, |_m, out, room, answer| if answer.refusal == 8 && ro
     *out ^= 1;
 });
 wrong_relay!(relay_id, |_m, _out, _room, answer| if answer.refusal == 11 {
-    answer.circuit = 1;
+    answer.circuit.start = 2;
 });
 wrong_relay!(relay_placed, |_m, _out, room, answer| if answer.refusal == 0 {
     answer.place = room;
 });
-wrong_relay!(no_circuit, |_m, _out, _room, answer| if answer.refusal + answer.circuit == 0 {
-    answer.circuit_start = 2;
+wrong_relay!(no_circuit, |_m, _out, _room, answer| if answer.refusal == 0
+    && answer.circuit.start == 0
+{
+    answer.circuit.length = 1;
 });
-wrong_relay!(no_remote, |_m, _out, _room, answer| if answer.refusal + answer.remote == 0 {
-    answer.remote_start = 2;
-});
-wrong_relay!(circuit_as_two, |_m, _out, _room, answer| answer.circuit *= 2);
-wrong_relay!(empty_remote, |_m, _out, _room, answer| if answer.remote_length == 0 {
-    answer.remote_start = 0;
+wrong_relay!(
+    no_remote,
+    |_m, _out, _room, answer| if answer.refusal == 0 && answer.remote.start == 0 {
+        answer.remote.start = 2;
+    }
+);
+wrong_relay!(changed_ids, |_m, _out, _room, answer| std::mem::swap(
+    &mut answer.circuit,
+    &mut answer.remote
+));
+wrong_relay!(empty_remote, |_m, _out, _room, answer| if answer.remote.length == 0 {
+    answer.remote.start = 0;
 });
 
 /// A writer of sub-options, the same.
 macro_rules! wrong_sub_options {
     ($name:ident, |$s:ident, $out:ident, $room:ident, $filled:ident| $done:expr) => {
-        unsafe extern "C" fn $name(
-            $s: *const u8,
-            n: usize,
-            $out: *mut u8,
-            $room: usize,
-        ) -> Filled {
+        unsafe extern "C" fn $name($s: *const u8, n: usize, $out: *mut u8, $room: usize) -> Filled {
             #[allow(unused_mut)]
             let mut $filled = boundary::independent_relay_write($s, n, $out, $room);
             $done;

@@ -10,7 +10,6 @@ use super::sides::{Subject, Yardstick};
 use super::{groups, messages, relay, sheets, vendor};
 use independent::boundary::{Answer, Filled};
 use independent::rules::answers::Codes;
-use independent::rules::kinds::RELAY;
 use std::fmt::Debug;
 
 /// After so many differences a run ends.
@@ -104,8 +103,6 @@ impl Run {
         self.bytes = bytes;
         if index.is_multiple_of(8) {
             self.grouped(seed, index);
-        }
-        if RELAY && index.is_multiple_of(8) {
             self.relayed(seed, index);
         }
     }

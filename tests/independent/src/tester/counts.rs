@@ -4,7 +4,7 @@ use super::index::{fault, UNUSABLE};
 use super::messages::goes_across;
 use independent::boundary::{Address, Answer, Extent, Filled, Present, Relay, Wrote};
 use independent::rules::answers::{Codes, Kind};
-use independent::rules::kinds::{kind_of, RELAY};
+use independent::rules::kinds::kind_of;
 use independent::rules::reading::{walk, COOKIE, FILE, OPTIONS, OVERLOAD, SNAME};
 
 /// How often each possible answer is to come in the short mode.
@@ -18,7 +18,7 @@ const STATUS_FOUND: [(usize, &str); 4] =
     [(1, "unknown"), (3, "number"), (4, "part"), (5, "broken")];
 
 /// The kinds, and none of them at 0.
-const KINDS: usize = if RELAY { 13 } else { 12 };
+const KINDS: usize = 13;
 
 /// The refusals to 23, and none at 0.
 const REFUSALS: usize = 24;
@@ -360,8 +360,14 @@ impl Counts {
         add_room(&mut self.relay_lent[0], size, room);
         if answer.refusal == 0 {
             let [circuit, remote] = &mut self.relay_id;
-            add(circuit, (answer.circuit as usize) << usize::from(answer.circuit_length > 0));
-            add(remote, (answer.remote as usize) << usize::from(answer.remote_length > 0));
+            add(
+                circuit,
+                usize::from(answer.circuit.start > 0) << usize::from(answer.circuit.length > 0),
+            );
+            add(
+                remote,
+                usize::from(answer.remote.start > 0) << usize::from(answer.remote.length > 0),
+            );
         }
     }
 
@@ -440,9 +446,7 @@ impl Counts {
         println!("vendor, lent exactly, one short, longer, none: {:?}", self.vendor_lent);
         println!("vendor, 255 bytes given, 256 refused: {:?}", self.vendor_full);
         println!("vendor, written and read back: {}", self.vendor_back);
-        if RELAY {
-            self.print_relay();
-        }
+        self.print_relay();
         print_refusals("index_build", &self.index_build);
         print_refusals("index_lookup", &self.index_lookup);
         let [same, otherwise] = self.stale;
@@ -530,12 +534,8 @@ impl Counts {
         missing.refusals("present", &self.present, &[0, 1, 2, 3, 4, 5, 6, 7]);
         missing.refusals("copy", &self.copy, &[0, 1, 2, 3, 4, 5, 6, 7, 10, 11]);
         missing.refusals("records", &self.records, &[0, 1, 2, 3, 4, 5, 6, 7, 11]);
-        let possible = [0, 1, 2, 7, 8, 9, 10, 11, 12, 13, 14, 15, 16, 23];
-        let possible = if RELAY { &possible[..] } else { &possible[..13] };
-        missing.refusals("write", &self.write, possible);
-        if RELAY {
-            self.missing_relay(&mut missing);
-        }
+        missing.refusals("write", &self.write, &[0, 1, 2, 7, 8, 9, 10, 11, 12, 13, 14, 15, 16, 23]);
+        self.missing_relay(&mut missing);
         missing.refusals("vendor_records", &self.vendor_records, &[0, 11, 17]);
         missing.refusals("vendor_write", &self.vendor_write, &[0, 10, 11, 12, 13, 16]);
         missing.all("vendor_records lent", &self.vendor_lent[0]);

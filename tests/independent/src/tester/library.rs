@@ -1,10 +1,7 @@
-//! The library under test: three static archives. They do not have request 09 yet:
-//! with the feature `relay` plain C (`bench/plain*.c`) stands in their place where a
-//! code's row or sub-options count, and elsewhere this package's own exports.
+//! The library under test: three static archives.
 
-use super::sides::{own_exports, Subject};
-use independent::boundary::{Address, Answer, Checked, Extent, Filled, Present, Wrote};
-use independent::rules::kinds::RELAY;
+use super::sides::Subject;
+use independent::boundary::{Address, Answer, Checked, Extent, Filled, Present, Relay, Wrote};
 
 #[link(name = "dhcpopt_reader", kind = "static")]
 extern "C" {
@@ -25,12 +22,14 @@ extern "C" {
     fn dhcpopt_present(m: *const u8, n: usize) -> Present;
     fn dhcpopt_records(m: *const u8, n: usize, out: *mut u8, room: usize) -> Filled;
     fn dhcpopt_vendor_records(bytes: *const u8, n: usize, out: *mut u8, room: usize) -> Filled;
+    fn dhcpopt_relay_records(bytes: *const u8, n: usize, out: *mut u8, room: usize) -> Relay;
 }
 
 #[link(name = "dhcpopt_writer", kind = "static")]
 extern "C" {
     fn dhcpopt_write(sheet: *const u8, n: usize, m: *mut u8, room: usize, permission: u8) -> Wrote;
     fn dhcpopt_vendor_write(sheet: *const u8, n: usize, out: *mut u8, room: usize) -> Filled;
+    fn dhcpopt_relay_write(sheet: *const u8, n: usize, out: *mut u8, room: usize) -> Filled;
     fn dhcpopt_check_grouped(file: *const u8, n: usize) -> Checked;
     fn dhcpopt_choose(
         file: *const u8,
@@ -60,80 +59,7 @@ extern "C" {
     ) -> Answer;
 }
 
-#[cfg(feature = "relay")]
-mod plain {
-    use independent::boundary::{Answer, Filled, Relay, Wrote};
-
-    #[link(name = "plain", kind = "static")]
-    extern "C" {
-        fn plain_lookup(m: *const u8, n: usize, known: *const u64, code: u8) -> Answer;
-        fn plain_index_lookup(
-            m: *const u8,
-            n: usize,
-            index: *const u16,
-            count: usize,
-            known: *const u64,
-            code: u8,
-        ) -> Answer;
-        pub fn plain_write(
-            sheet: *const u8,
-            n: usize,
-            m: *mut u8,
-            room: usize,
-            permission: u8,
-        ) -> Wrote;
-        pub fn plain_relay_records(b: *const u8, n: usize, out: *mut u8, room: usize) -> Relay;
-        pub fn plain_relay_write(s: *const u8, n: usize, out: *mut u8, room: usize) -> Filled;
-    }
-
-    pub unsafe extern "C" fn lookup(
-        m: *const u8,
-        n: usize,
-        k0: u64,
-        k1: u64,
-        k2: u64,
-        k3: u64,
-        code: u8,
-    ) -> Answer {
-        plain_lookup(m, n, [k0, k1, k2, k3].as_ptr(), code)
-    }
-
-    pub unsafe extern "C" fn index_lookup(
-        m: *const u8,
-        n: usize,
-        index: *const u16,
-        count: usize,
-        k0: u64,
-        k1: u64,
-        k2: u64,
-        k3: u64,
-        code: u8,
-    ) -> Answer {
-        plain_index_lookup(m, n, index, count, [k0, k1, k2, k3].as_ptr(), code)
-    }
-}
-
-#[cfg(feature = "relay")]
-fn stand_in() -> Subject {
-    Subject {
-        lookup: plain::lookup,
-        index_lookup: plain::index_lookup,
-        write: plain::plain_write,
-        relay_records: plain::plain_relay_records,
-        relay_write: plain::plain_relay_write,
-        ..own_exports()
-    }
-}
-
-#[cfg(not(feature = "relay"))]
-fn stand_in() -> Subject {
-    own_exports()
-}
-
 pub fn library() -> Subject {
-    if RELAY {
-        return stand_in();
-    }
     Subject {
         lookup: dhcpopt_lookup,
         data: dhcpopt_data,
@@ -145,9 +71,8 @@ pub fn library() -> Subject {
         write: dhcpopt_write,
         vendor_records: dhcpopt_vendor_records,
         vendor_write: dhcpopt_vendor_write,
-        // Not asked without the feature.
-        relay_records: stand_in().relay_records,
-        relay_write: stand_in().relay_write,
+        relay_records: dhcpopt_relay_records,
+        relay_write: dhcpopt_relay_write,
         index_build: dhcpopt_index_build,
         index_lookup: dhcpopt_index_lookup,
         check: dhcpopt_check_grouped,

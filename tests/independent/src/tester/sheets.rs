@@ -4,7 +4,7 @@
 use super::rng::Rng;
 use super::values::{self, Want};
 use independent::rules::answers::Codes;
-use independent::rules::kinds::{RELAY, RELAY_INFORMATION};
+use independent::rules::kinds::RELAY_INFORMATION;
 use independent::rules::reading::{COOKIE, END, FILE, LONGEST, OPTIONS, OVERLOAD, SNAME};
 
 const LONGEST_SHEET: usize = 4096;
@@ -53,7 +53,7 @@ struct Faults {
 
 impl Faults {
     fn add(&mut self, rng: &mut Rng) {
-        match rng.below(if RELAY { 8 } else { 7 }) {
+        match rng.below(8) {
             0 => self.tag = true,
             1 => self.long = true,
             2 => self.repeat = true,
@@ -78,9 +78,7 @@ impl<'r> Builder<'r> {
         out.clear();
         let mut used = Codes::default();
         // 82 comes last, where it is put.
-        if RELAY {
-            used.add(RELAY_INFORMATION);
-        }
+        used.add(RELAY_INFORMATION);
         Builder { rng, used, tags: Vec::new(), out }
     }
 
@@ -175,7 +173,7 @@ impl<'r> Builder<'r> {
 
     /// 82 as the last record, in some sheets.
     fn relay(&mut self, share: usize, want: Want, limit: usize) {
-        if RELAY && self.rng.percent(share) && !self.tags.contains(&RELAY_INFORMATION) {
+        if self.rng.percent(share) && !self.tags.contains(&RELAY_INFORMATION) {
             self.record(RELAY_INFORMATION, want, limit);
         }
     }
@@ -262,7 +260,7 @@ fn good(rng: &mut Rng, out: &mut Vec<u8>) {
             break;
         }
     }
-    if size >= 300 && builder.rng.percent(20) && RELAY {
+    if size >= 300 && builder.rng.percent(20) {
         let length = builder.rng.between(200, 700);
         let at = builder.head(RELAY_INFORMATION);
         values::long(builder.rng, RELAY_INFORMATION, length, builder.out);
@@ -304,7 +302,7 @@ fn faulty(rng: &mut Rng, count: usize, out: &mut Vec<u8>) {
         let want = if builder.rng.percent(90) { Want::Good } else { Want::Any };
         builder.record(1, want, 255);
     }
-    let want = if RELAY && builder.rng.percent(50) { Want::BadLength } else { Want::Good };
+    let want = if builder.rng.percent(50) { Want::BadLength } else { Want::Good };
     builder.relay(20, want, 64);
 }
 

@@ -3,7 +3,7 @@
 use super::relay;
 use super::rng::Rng;
 use independent::rules::answers::Kind;
-use independent::rules::kinds::{kind_of, RELAY, RELAY_INFORMATION};
+use independent::rules::kinds::{kind_of, RELAY_INFORMATION};
 
 /// The codes with a rule on their value, 52 apart.
 const JUDGED: &[u8] = &[
@@ -35,9 +35,7 @@ pub fn want(rng: &mut Rng) -> Want {
 pub fn code(rng: &mut Rng, want: Want) -> u8 {
     loop {
         let code = match (want, rng.below(4)) {
-            (Want::Good | Want::BadLength | Want::Any, _) if RELAY && rng.percent(6) => {
-                RELAY_INFORMATION
-            }
+            (Want::Good | Want::BadLength | Want::Any, _) if rng.percent(6) => RELAY_INFORMATION,
             (Want::BadValue, _) => rng.pick(JUDGED),
             (_, 0) => rng.pick(COMMON),
             (Want::BadLength, _) | (_, 1 | 2) => rng.between(1, 76) as u8,
@@ -54,7 +52,7 @@ pub fn rowless(rng: &mut Rng) -> u8 {
     match rng.below(180) {
         0 => 62,
         1 => 63,
-        n if RELAY && n + 75 == usize::from(RELAY_INFORMATION) => RELAY_INFORMATION + 1,
+        n if n + 75 == usize::from(RELAY_INFORMATION) => RELAY_INFORMATION + 1,
         n => (n + 75) as u8,
     }
 }
@@ -115,7 +113,7 @@ pub fn long(rng: &mut Rng, code: u8, length: usize, out: &mut Vec<u8>) {
 
 /// A code whose data may be of any length, or of any multiple of its size.
 pub fn unbounded(rng: &mut Rng) -> u8 {
-    if RELAY && rng.percent(12) {
+    if rng.percent(12) {
         return RELAY_INFORMATION;
     }
     match rng.below(8) {

@@ -4,7 +4,7 @@ ghost use mathlib.Core.List.{[], _∷_};
 ghost use Prim.Native.Nat.{_<_, _%_};
 ghost use Rattle.options.specs.Reading.{among};
 ghost use Rattle.options.specs.Kinds.{kindOf, multiples, isLength, addressesOf, numbersOf, rising, noZeroFirst, trimmed, fromTo, textFits, orNine};
-ghost use Rattle.kinds.specs.Numbers.{kindNumber, rowAt, kindNumbered, faultOf, faultNumbered, lengthFits, valueFaultIn, isList, listFault, numberFault};
+ghost use Rattle.kinds.specs.Numbers.{kindNumber, rowAt, kindNumbered, faultOf, faultNumbered, lengthFits, valueFaultIn, isList, listFault, numberFault, NumbersKeepTheKind, FaultsKeepTheNumber};
 ghost use Rattle.kinds.specs.Parts.{octetFits, number16Fits};
 
 // The kinds as numbers (document 01, The kinds): its rows in their order, and 0 for a code that has none.
@@ -289,3 +289,8 @@ fn destinations_fit(d: &[u8]) -> bool
     }
     true
 }
+
+// The statements of specs/ hold.
+pub fn proved()
+    ensures { λ _. ⌜ NumbersKeepTheKind × FaultsKeepTheNumber ⌝ }
+{}

@@ -16,7 +16,7 @@ use Rattle.lookup.specs.declared.Origin.{Origin}
 use Rattle.lookup.specs.declared.Answer.{Answer}
 use Rattle.lookup.specs.declared.Answer.the-variants.{Absent, Refused, Found}
 use Rattle.lookup.specs.declared.Content.{Content}
-use Rattle.lookup.specs.declared.Content.the-variants.{Unknown, Broken, Address, Addresses, Pairs, Flag, Octet, Number16, Numbers16, Unsigned32, Signed32, Text, Opaque}
+use Rattle.lookup.specs.declared.Content.the-variants.{Unknown, Broken, Address, Addresses, Pairs, Flag, Octet, Number16, Numbers16, Unsigned32, Signed32, Text, Opaque, Relay}
 use Rattle.lookup.specs.declared.Extent.{Extent}
 use Rattle.lookup.specs.Shown.{contentOf, wholenessOf, originOf, answerOf, extentOf, OneValueAnAnswer, OneValueAPart}
 
@@ -33,7 +33,7 @@ numberFrom k z =
 
 -- the value that holds a part of a kind
 abbrev partFrom : ℕ → ℕ → Content
-partFrom k n = cond (eqb k 2) (Addresses n) (cond (eqb k 3) (Pairs n) (cond (eqb k 7) (Numbers16 n) (cond (eqb k 10) (Text n) (Opaque n))))
+partFrom k n = cond (eqb k 2) (Addresses n) (cond (eqb k 3) (Pairs n) (cond (eqb k 7) (Numbers16 n) (cond (eqb k 10) (Text n) (cond (eqb k 12) (Relay n) (Opaque n)))))
 
 abbrev contentFrom : asked.Content → Content
 contentFrom (asked.unknown n) = Unknown n
@@ -56,6 +56,7 @@ content-held (Unsigned32 n) = refl
 content-held (Signed32 z) = refl
 content-held (Text n) = refl
 content-held (Opaque n) = refl
+content-held (Relay n) = refl
 
 abbrev wholenessFrom : asked.Wholeness → Wholeness
 wholenessFrom asked.inOne = InOne

@@ -34,6 +34,7 @@ fn kind(c: Content) -> u32 {
         Content::Signed32(_) => 9,
         Content::Text(_) => 10,
         Content::Opaque(_) => 11,
+        Content::Relay(_) => 12,
     }
 }
 

@@ -25,7 +25,7 @@ use Rattle.vendor_writer.specs.declared.Judged.{Judged}
 use Rattle.vendor_writer.specs.Judge.{judgeOf, AllBrief}
 
 -- no refusal has the number 0
-other-number : {n k p q : ℕ} → faulty k q ≡ faulty n p → (k ≡ 0 → ⊥) → n ≡ 0 → ⊥
+pub other-number : {n k p q : ℕ} → faulty k q ≡ faulty n p → (k ≡ 0 → ⊥) → n ≡ 0 → ⊥
 other-number {n} {k} e h z = let y : k ≡ n = cc in h (y ∙ z)
 
 faulty-number : (seen : List ℕ) (w : Walk) (n p : ℕ) → ruled vendorRules seen w ≡ faulty n p → n ≡ 0 → ⊥
@@ -60,7 +60,7 @@ pub record Sound (s : List ℕ) (j : Judged) : Type 0 where
   pub left : Whole s 0
 
 -- a walk that meets no cut record goes to the sheet's end
-to-end : {s : List ℕ} {i : ℕ} {w : Walk} → Reads s i w → Uncut w → i ≤ length s → i + length (recordBytes (recordsOf w)) ≡ length s
+pub to-end : {s : List ℕ} {i : ℕ} {w : Walk} → Reads s i w → Uncut w → i ≤ length s → i + length (recordBytes (recordsOf w)) ≡ length s
 unfolding recordsOf recordBytes
 to-end {s} {i} (r-none e) u l = let z : length (drop i s) ≡ 0 = ap length e in omega (arith, z, length-drop i s)
 to-end (r-cut x) u l = absurd u
@@ -68,7 +68,7 @@ to-end {s} {i} (r-record {c = c} {d = d} {w = w} o r) u l =
     let n : length (drop i s) ≡ 3 + length d + length (o .after) = ap length (o .reads) ∙ omega (arith, length-append d (o .after)) in
     omega (arith, to-end r u (omega (arith, n, length-drop i s)), bytes-more (rec c d) (recordsOf w))
 
-short-brief : (rs : List Rec) → AllBrief rs → AllShort rs
+pub short-brief : (rs : List Rec) → AllBrief rs → AllShort rs
 short-brief [] b = tt
 short-brief (r ∷ rs) b = (omega (arith, b .0), short-brief rs (b .1))
 

@@ -1,9 +1,9 @@
 -- `kinds::short_list_fault` meets its contract, arm by arm. Assumes nothing.
 use borrow.Author.Needs.{needs}
-use borrow.Author.Tests.{ne-eqb}
+use borrow.Author.Tests.{eq-eqb, ne-eqb}
 use native.Mathlib.Omega.{arith}
-use mathlib.Core.Path.{_≡_}
-use mathlib.Core.Bool.{Bool, _||_}
+use mathlib.Core.Path.{_≡_, refl, sym, _∙_}
+use mathlib.Core.Bool.{Bool, true, false, cond, _||_}
 use mathlib.Core.Logic.{inl, inr}
 use lib.Dec.{eqb, eqb→eq}
 use mir.Facts.{or-yes}
@@ -16,6 +16,10 @@ use Rattle.kinds.proofs.ByKind.{list-3, list-7, list-10, value-7, value
 use Rattle.kinds.proofs.short_list_fault.Statement.{statement}
 use Rattle.kinds.proofs.short_list_fault.Tie as tie
 use Rattle.kinds.proofs.short_list_fault.Lts as lts
+
+-- but for kind 12, the list's fault
+short : (n k : ℕ) → n % 16 ≡ k → (k ≡ 12 → ⊥) → eqb (n % 16) 12 ≡ false
+short n k e z = ne-eqb (n % 16) 12 (λ q. z (sym e ∙ q))
 
 -- as the code has them
 abbrev arms : Arms
@@ -49,19 +53,23 @@ or-nine-requires-3 c κs = search needs
 returns-2 : tie.Need-returns-2
 returns-2 c =
     let n = c .before .before .before .args .row in
-    rw (list-3 n (omega arith) (c .before .match .keys1), ne-eqb n 19 (λ e. omega (arith, c .if1 .left, c .before .match .keys1, e)))
+    rw (short n 3 (c .before .match .keys1) (λ z. omega arith), list-3 n (omega arith) (c .before .match .keys1), ne-eqb n 19 (λ e. omega (arith, c .if1 .left, c .before .match .keys1, e)))
 
 returns-3 : tie.Need-returns-3
 unfolding valueFault
 returns-3 c =
     let k = c .before .before .match .keys2 in
-    rw (list-7 _ (omega arith) k, value-7 _ (omega arith) k, ← c .before .never-falling .ensures) (c .or-nine2 .ensures)
+    rw (short _ 7 k (λ z. omega arith), list-7 _ (omega arith) k, value-7 _ (omega arith) k, ← c .before .never-falling .ensures) (c .or-nine2 .ensures)
 
 returns-4 : tie.Need-returns-4
 unfolding valueFault
 returns-4 c =
     let k = c .before .before .match .keys3 in
-    rw (list-10 _ (omega arith) k, value-10 _ (omega arith) k, ← c .before .text-fits .ensures) (c .or-nine3 .ensures)
+    rw (short _ 10 k (λ z. omega arith), list-10 _ (omega arith) k, value-10 _ (omega arith) k, ← c .before .text-fits .ensures) (c .or-nine3 .ensures)
+
+cond-same : (b : Bool) → cond {A = ℕ} b 0 0 ≡ 0
+cond-same true = refl
+cond-same false = refl
 
 -- the rows of no list, and relay
 abbrev others : ℕ → Bool
@@ -69,11 +77,10 @@ others k = listless k || eqb k 12
 
 returns-5 : tie.Need-returns-5
 returns-5 c =
-    let s = c .before .before in
-    let n = s .args .row in
+    let n = c .before .before .args .row in
     elim (or-yes (listless (n % 16)) (eqb (n % 16) 12) (unlisted others arms (n % 16) tt (omega arith) (c .match .rest))) [
-      | inl h ↦ rw (no-list n (omega arith) h)
-      | inr h ↦ absurd (s .pre (eqb→eq (n % 16) 12 h))
+      | inl h ↦ rw (no-list n (omega arith) h, cond-same (eqb (n % 16) 12))
+      | inr h ↦ rw (eq-eqb (n % 16) 12 (eqb→eq (n % 16) 12 h))
     ]
 
 pub short-list-fault-spec : {M : Type 1} → statement M

@@ -1,5 +1,6 @@
 -- `kinds::value_fault` meets its contract: that of relay information, or one of the rule's two parts. Assumes nothing.
 use borrow.Author.Needs.{needs}
+use borrow.Author.Tests.{ne-eqb}
 use native.Mathlib.Omega.{arith}
 use mathlib.Core.Path.{sym, _∙_}
 use Rattle.options.specs.Kinds.{valueFault}
@@ -18,10 +19,10 @@ unfolding valueFault
 returns c = let k = c .before .if2 .taken in rw (value-12 _ (omega arith) k) (c .suboptions-fault .ensures)
 
 short-list-fault-requires : tie.Need-short-list-fault-requires
-short-list-fault-requires c κs = c .if2 .left
+short-list-fault-requires c κs = search needs
 
 returns-2 : tie.Need-returns-2
-returns-2 c = let e = c .before .before in rw (sym (e .before .is-list .ensures) ∙ e .if1 .taken) at (c .short-list-fault .ensures)
+returns-2 c = let e = c .before .before in rw (ne-eqb _ 12 (c .before .if2 .left), sym (e .before .is-list .ensures) ∙ e .if1 .taken) at (c .short-list-fault .ensures)
 
 number-fault-requires : tie.Need-number-fault-requires
 number-fault-requires c κs = search needs

@@ -13,6 +13,7 @@ use Rattle.options.specs.Writing.{optionBytes}
 use Rattle.options.specs.WriterClaims.{Has}
 use Rattle.options.specs.Relay.{Id, absent, named, idIn}
 use Rattle.options.specs.RelayClaims.{IdOf, none-has, first-has}
+use Rattle.theorems.proofs.SubOptionRow.{are, the-bytes}
 use Rattle.vendor_theorems.proofs.Writing.{placed}
 
 abbrev None : ℕ → List Rec → Type 0
@@ -39,7 +40,7 @@ module _ (c : ℕ) where
       go : (b : Bool) → eqb (r .tag) c ≡ b
           → (None c (pre ++ (r ∷ [])) → IdOf c ((pre ++ (r ∷ [])) ++ rs) (idIn c (placed (length (optionBytes (pre ++ (r ∷ [])))) rs)))
           → IdOf c (pre ++ (r ∷ rs)) (cond b (named (length (optionBytes pre) + 2) (length (r .body))) (idIn c (placed (length (optionBytes pre) + 2 + length (r .body)) rs)))
-      go true e ih = first-has pre (r .body) rs (ap (λ (t : ℕ). pre ++ (record { tag = t; body = r .body } ∷ rs)) (eqb-true (r .tag) c e)) n
+      go true e ih = first-has pre (optionBytes pre) (r .body) rs (ap (λ (t : ℕ). pre ++ (record { tag = t; body = r .body } ∷ rs)) (eqb-true (r .tag) c e)) (are pre) n
       go false e ih =
           subst (λ (i : ℕ). IdOf c (pre ++ (r ∷ rs)) (idIn c (placed i rs))) (bytes-more pre r)
           (subst (λ (xs : List Rec). IdOf c xs (idIn c (placed (length (optionBytes (pre ++ (r ∷ [])))) rs))) (append-assoc pre (r ∷ []) rs)
@@ -66,4 +67,5 @@ module _ (c : ℕ) where
 
   pub id-only : (rs : List Rec) (x : Id) → IdOf c rs x → idIn c (placed 0 rs) ≡ x
   id-only rs x (none-has n) = id-none 0 rs n
-  id-only rs x (first-has before d after e n) = ap (λ (l : List Rec). idIn c (placed 0 l)) e ∙ id-first 0 before d after n ∙ ap (λ (i : ℕ). named i (length d)) (omega arith)
+  id-only rs x (first-has before head d after e q n) =
+      ap (λ (l : List Rec). idIn c (placed 0 l)) e ∙ id-first 0 before d after n ∙ ap (λ (i : ℕ). named i (length d)) (omega (arith, ap length (the-bytes q)))

@@ -12,10 +12,11 @@ use Rattle.options.specs.KindClaims.{AllBytes}
 use Rattle.options.specs.SheetWalk.{recordsFrom, Sheet, sound, faulty, ruled}
 use Rattle.options.specs.RuleClaims.{nth-first, nth-next, RuleRow, cut-row, rule-row, CorrectSheet}
 use Rattle.options.specs.Relay.{relayRules, relaySheet}
-use Rattle.options.specs.RelayClaims.{RelayRow, row-12, row-13, FirstRelayRow, RightRelay}
+use Rattle.options.specs.RelayClaims.{RecordsAre, RelayRow, row-12, row-13, FirstRelayRow, RightRelay}
 use Rattle.writing_theorems.proofs.Ruled.{nth-some, ruled-correct}
 use Rattle.writing_theorems.proofs.SheetRows.{reached-begins, reaches}
 use Rattle.writing_theorems.proofs.SheetView.{same-sheet}
+use Rattle.relay_theorems.proofs.Bytes.{records-are, the-records}
 
 module _ {s : List ℕ} where
   to-row : {n i q : ℕ} → RuleRow relayRules s n i q → RelayRow s n i q
@@ -33,7 +34,7 @@ Judges s (sound rs) = RightRelay s rs
 
 judges-of : (s : List ℕ) (x : Sheet) → CorrectSheet relayRules s x → Judges s x
 judges-of s (faulty n p) g = record { rank = g .rank; applies = to-row (g .applies); none-before = λ r. g .none-before (of-row r) }
-judges-of s (sound rs) g = record { is-sheet = g .0; no-row = λ n i q r. g .1 n i q (of-row r) }
+judges-of s (sound rs) g = record { is-sheet = subst (RecordsAre rs) (sym (g .0)) (records-are rs); no-row = λ n i q r. g .1 n i q (of-row r) }
 
 pub judges : (s : List ℕ) → AllBytes s → Judges s (relaySheet s)
 unfolding relaySheet
@@ -58,7 +59,7 @@ first-once {s} {n} {m} {i} {j} f g = go (f .none-before (g .applies)) (g .none-b
         (row-number (f .applies) (subst (RelayRow s m j) r (g .applies)), a .0)
 
 pub sheet-once : {s : List ℕ} {rs ts : List Rec} → RightRelay s rs → RightRelay s ts → rs ≡ ts
-sheet-once {s} {rs} {ts} a b = same-sheet rs ts (sym (a .is-sheet) ∙ b .is-sheet)
+sheet-once {s} {rs} {ts} a b = same-sheet rs ts (sym (the-records (a .is-sheet)) ∙ the-records (b .is-sheet))
 
 pub row-or-sheet : {s : List ℕ} {n i : ℕ} {rs : List Rec} → FirstRelayRow s n i → RightRelay s rs → ⊥
 row-or-sheet {s} {n} {i} f h = h .no-row n i (f .rank) (f .applies)

@@ -9,25 +9,25 @@ use Rattle.options.specs.SheetWalk.{Sheet, sound, faulty}
 use Rattle.options.specs.Writing.{orderRules, ordered}
 use Rattle.options.specs.Relay.{Id, absent, named, RelayRead, relayRecords, relayWrite}
 
-abbrev whole : ℕ → List ℕ → Filled
+abbrev pub whole : ℕ → List ℕ → Filled
 whole n xs = record { answer = given n; buffer = xs }
 
 -- what is asked, each with what is to be given
-record ReadCase : Type 0 where
-  asked : RelayRead
-  answered : RelayRead
+pub record ReadCase : Type 0 where
+  pub asked : RelayRead
+  pub answered : RelayRead
 
-abbrev reads : List ℕ → List ℕ → Filled → Id → Id → ReadCase
+abbrev pub reads : List ℕ → List ℕ → Filled → Id → Id → ReadCase
 reads f old w c r = record { asked = relayRecords f old; answered = record { filled = w; circuit = c; remote = r } }
 
-record WriteCase : Type 0 where
-  asked : Filled
-  answered : Filled
+pub record WriteCase : Type 0 where
+  pub asked : Filled
+  pub answered : Filled
 
-abbrev writes : List ℕ → List ℕ → Filled → WriteCase
+abbrev pub writes : List ℕ → List ℕ → Filled → WriteCase
 writes s out w = record { asked = relayWrite s out; answered = w }
 
-abbrev readCases : List ReadCase
+abbrev pub readCases : List ReadCase
 readCases =
     -- both ids, the second of length 0: it is there
     reads (1 ∷ 2 ∷ 65 ∷ 66 ∷ 2 ∷ 0 ∷ []) (5 ∷ 5 ∷ 5 ∷ 5 ∷ 5 ∷ 5 ∷ 5 ∷ 5 ∷ 5 ∷ []) (whole 8 (1 ∷ 0 ∷ 2 ∷ 65 ∷ 66 ∷ 2 ∷ 0 ∷ 0 ∷ 5 ∷ [])) (named 2 2) (named 6 0)
@@ -45,7 +45,7 @@ readCases =
     ∷ reads (1 ∷ 1 ∷ 7 ∷ []) (5 ∷ 5 ∷ 5 ∷ []) (unfilled 11 3 (5 ∷ 5 ∷ 5 ∷ [])) absent absent
     ∷ []
 
-abbrev writeCases : List WriteCase
+abbrev pub writeCases : List WriteCase
 writeCases =
     -- tags 0 and 255 are codes like any other
     writes (0 ∷ 0 ∷ 1 ∷ 7 ∷ 255 ∷ 0 ∷ 0 ∷ []) (5 ∷ 5 ∷ 5 ∷ 5 ∷ 5 ∷ 5 ∷ []) (whole 5 (0 ∷ 1 ∷ 7 ∷ 255 ∷ 0 ∷ 5 ∷ []))
@@ -62,32 +62,32 @@ writeCases =
     ∷ writes (1 ∷ 0 ∷ 253 ∷ replicate 253 7) (replicate 257 5) (whole 255 (1 ∷ 253 ∷ (replicate 253 7 ++ (5 ∷ 5 ∷ []))))
     ∷ []
 
-abbrev readsGot : List ReadCase → List RelayRead
+abbrev pub readsGot : List ReadCase → List RelayRead
 readsGot [] = []
 readsGot (c ∷ cs) = c .asked ∷ readsGot cs
 
-abbrev readsWanted : List ReadCase → List RelayRead
+abbrev pub readsWanted : List ReadCase → List RelayRead
 readsWanted [] = []
 readsWanted (c ∷ cs) = c .answered ∷ readsWanted cs
 
-abbrev writesGot : List WriteCase → List Filled
+abbrev pub writesGot : List WriteCase → List Filled
 writesGot [] = []
 writesGot (c ∷ cs) = c .asked ∷ writesGot cs
 
-abbrev writesWanted : List WriteCase → List Filled
+abbrev pub writesWanted : List WriteCase → List Filled
 writesWanted [] = []
 writesWanted (c ∷ cs) = c .answered ∷ writesWanted cs
 
 -- records by their tags alone, each with two bytes of data
-abbrev tags : List ℕ → List Rec
+abbrev pub tags : List ℕ → List Rec
 tags [] = []
 tags (c ∷ cs) = record { tag = c; body = 1 ∷ 0 ∷ [] } ∷ tags cs
 
 -- 23 at 82's tag, where it is not the last; 14 comes first, though 82 stands before tag 3
-record OrderCases : Type 0 where
-  last : ordered orderRules (tags (12 ∷ 82 ∷ [])) ≡ sound (tags (12 ∷ 82 ∷ []))
-  not-last : ordered orderRules (tags (12 ∷ 82 ∷ 15 ∷ [])) ≡ faulty 23 5
-  first-14 : ordered orderRules (tags (82 ∷ 3 ∷ 1 ∷ [])) ≡ faulty 14 5
+pub record OrderCases : Type 0 where
+  pub last : ordered orderRules (tags (12 ∷ 82 ∷ [])) ≡ sound (tags (12 ∷ 82 ∷ []))
+  pub not-last : ordered orderRules (tags (12 ∷ 82 ∷ 15 ∷ [])) ≡ faulty 23 5
+  pub first-14 : ordered orderRules (tags (82 ∷ 3 ∷ 1 ∷ [])) ≡ faulty 14 5
 
 abbrev pub RelayCasesHold : Type 0
 RelayCasesHold = (readsGot readCases ≡ readsWanted readCases) × (writesGot writeCases ≡ writesWanted writeCases) × OrderCases

@@ -1,4 +1,4 @@
--- INSIDE RELAY INFORMATION, option 82 (document 02, request 09; RFC 3046; docs/RULES.md, L): its sub-options read as records, and written from records, as definitions.
+-- INSIDE RELAY INFORMATION, option 82 (document 02, request 09; RFC 3046; docs/RULES.md, Y): its sub-options read as records, and written from records, as definitions.
 -- RelayClaims ties them to relations that do not walk. Assumes nothing.
 use mathlib.Core.List.{List, [], _∷_}
 use mathlib.Core.Bool.{cond}
@@ -13,7 +13,7 @@ use Rattle.options.specs.Vendor.{Item, Items, listed, past, itemsIn, ite
 
 -- ---- Reading
 
--- [L3] "each absent or the first of that code, as its data's start and length in the bytes given"; of length 0 it is not absent
+-- [Y3] "each absent or the first of that code, as its data's start and length in the bytes given"; of length 0 it is not absent
 pub data Id : Type 0 where
   absent : Id
   named : (start length : ℕ) → Id
@@ -22,7 +22,7 @@ abbrev pub idIn : ℕ → List Item → Id
 idIn c [] = absent
 idIn c (x ∷ xs) = cond (eqb (x .item .tag) c) (named (x .offset + 2) (length (x .item .body))) (idIn c xs)
 
--- [L3] what the reader answers: the records in the lent sheet, "circuit id (1) and remote id (2)"
+-- [Y3] what the reader answers: the records in the lent sheet, "circuit id (1) and remote id (2)"
 pub record RelayRead : Type 0 where
   pub filled : Filled
   pub circuit : Id
@@ -32,14 +32,14 @@ pub record RelayRead : Type 0 where
 abbrev pub noRelay : ℕ → ℕ → List ℕ → RelayRead
 noRelay n p old = record { filled = unfilled n p old; circuit = absent; remote = absent }
 
--- [L2, R8, O13] "8 at the sub-option's code stands for 17"; then 11
+-- [Y2, R8, O12] "8 at the sub-option's code stands for 17"; then 11
 abbrev pub relayIn : Items → List ℕ → RelayRead
 relayIn (past i) old = noRelay 8 i old
 relayIn (listed xs) old =
     cond (ltb (length old) (length (recordBytes (itemRecords xs)))) (noRelay 11 (length old) old)
     (record { filled = filledWith (recordBytes (itemRecords xs)) old; circuit = idIn 1 xs; remote = idIn 2 xs })
 
--- [L2, R8] the sub-options of the bytes f as records in the lent sheet `old`; "no sub-options at all give 8 at 0"
+-- [Y2, R8] the sub-options of the bytes f as records in the lent sheet `old`; "no sub-options at all give 8 at 0"
 unfoldable pub relayRecords : List ℕ → List ℕ → RelayRead
 unfolding subOptions itemsIn itemRecords recordBytes
 relayRecords [] old = noRelay 8 0 old
@@ -47,7 +47,7 @@ relayRecords (b ∷ bs) old = relayIn (itemsIn (subOptions 0 0 (b ∷ bs))) old
 
 -- ---- Writing
 
--- [O14] "as Req 05's do, save that no tag is a 10": 12 is the walk's, 13 over 255
+-- [O13] "as Req 05's do, save that no tag is a 10": 12 is the walk's, 13 over 255
 abbrev pub relayRules : List Rule
 relayRules = longerThan 255 ∷ []
 
@@ -55,13 +55,13 @@ unfoldable pub relaySheet : List ℕ → Sheet
 unfolding recordsFrom ruled
 relaySheet s = ruled relayRules [] (recordsFrom 0 0 s)
 
--- [R8, O14] "no sub-options at all give 8 at 0"; then 11 where they exceed the output, or 255 bytes
+-- [R8, O13] "no sub-options at all give 8 at 0"; then 11 where they exceed the output, or 255 bytes
 abbrev pub relayGiven : Sheet → List ℕ → Filled
 relayGiven (faulty n p) out = unfilled n p out
 relayGiven (sound []) out = unfilled 8 0 out
 relayGiven (sound (r ∷ rs)) out = itemsGiven (r ∷ rs) out
 
--- [L4, O14] the sub-options of the records of the sheet s, into the buffer `out`
+-- [Y4, O13] the sub-options of the records of the sheet s, into the buffer `out`
 unfoldable pub relayWrite : List ℕ → List ℕ → Filled
 unfolding optionBytes relaySheet
 relayWrite s out = cond (ltb longestSheet (length s)) (unfilled 16 (length s) out) (relayGiven (relaySheet s) out)

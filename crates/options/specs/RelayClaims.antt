@@ -38,13 +38,13 @@ pub record PastAt (f : List ℕ) (i : ℕ) : Type 0 where
   pub place : i ≡ length head
   pub runs-past : RunsPast rest
 
--- [L3] "each absent or the first of that code, as its data's start and length in the bytes given": `head` are the bytes of those before it
+-- [Y3] "each absent or the first of that code, as its data's start and length in the bytes given": `head` are the bytes of those before it
 pub data IdOf (c : ℕ) (rs : List Rec) : Id → Type 0 where
   none-has : ((r : Rec) → Has r rs → r .tag ≡ c → ⊥) → IdOf c rs absent
   first-has : (before : List Rec) (head d : List ℕ) (after : List Rec) → rs ≡ before ++ (record { tag = c; body = d } ∷ after) → SubOptionsAre before head
       → ((r : Rec) → Has r before → r .tag ≡ c → ⊥) → IdOf c rs (named (length head + 2) (length d))
 
--- [L1, L2, L3, O13] 8 at 0 for none, 8 where one runs past, then 11; else the records b of those that fill the bytes, circuit id (1) and remote id (2). A refusal names none
+-- [Y1, Y2, Y3, O12] 8 at 0 for none, 8 where one runs past, then 11; else the records b of those that fill the bytes, circuit id (1) and remote id (2). A refusal names none
 pub data ReadsRelay (f old : List ℕ) : RelayRead → Type 0 where
   read-none : f ≡ [] → ReadsRelay f old (noRelay 8 0 old)
   read-8 : {i : ℕ} → PastAt f i → ReadsRelay f old (noRelay 8 i old)
@@ -62,7 +62,7 @@ RelayReadsTheRow = (f old : List ℕ) → ((i : ℕ) × (relayRecords f old .fil
 
 -- ---- The writer
 
--- [O14] `RelayRow s n i rank`: row n applies to the record whose tag byte is at place i of the sheet s; "no tag is a 10", so that 12 and 13 are left
+-- [O13] `RelayRow s n i rank`: row n applies to the record whose tag byte is at place i of the sheet s; "no tag is a 10", so that 12 and 13 are left
 pub data RelayRow (s : List ℕ) : ℕ → ℕ → ℕ → Type 0 where
   row-12 : {i : ℕ} → RecordBegins s i → RecordBeyond s i → RelayRow s 12 i 0
   row-13 : {i c : ℕ} {d : List ℕ} → Listed s i c d → 255 < length d → RelayRow s 13 i 1
@@ -78,7 +78,7 @@ pub record RightRelay (s : List ℕ) (rs : List Rec) : Type 0 where
   pub is-sheet : RecordsAre rs s
   pub no-row : (n i rank : ℕ) → RelayRow s n i rank → ⊥
 
--- [L4, O14] 16, record by record 12 and 13, 8 at 0 for no record, 11 where the sub-options exceed the output or 255 bytes; else their bytes b are given
+-- [Y4, O13] 16, record by record 12 and 13, 8 at 0 for no record, 11 where the sub-options exceed the output or 255 bytes; else their bytes b are given
 pub data WritesRelay (s out : List ℕ) : Filled → Type 0 where
   write-16 : 4096 < length s → WritesRelay s out (unfilled 16 (length s) out)
   write-record : {n i : ℕ} → length s ≤ 4096 → FirstRelayRow s n i → WritesRelay s out (unfilled n i out)
@@ -94,7 +94,7 @@ RelayWriterIsCorrect = (s out : List ℕ) (w : Filled) → AllBytes s → relayW
 
 -- ---- What was given: n bytes, at the start of w
 
--- [L5] "Written, then read with room enough, the records come back", byte for byte
+-- [Y5] "Written, then read with room enough, the records come back", byte for byte
 abbrev pub RelayComesBack : Type 0
 RelayComesBack =
     (s out : List ℕ) (n : ℕ) (w old : List ℕ) → AllBytes s → relayWrite s out ≡ record { answer = given n; buffer = w } → length s ≤ length old

@@ -7,7 +7,7 @@ use Prim.Native.Nat.{ℕ, zero, suc, _+_}
 use lib.ListN.{getD}
 use Rattle.options.specs.Reading.{Parse, ended, ranOut, beyond, found, cut, recordOf}
 
--- [L1] the sub-option whose code b is at the offset `at`; bs are the bytes after b, and `rest` is what is found after it. Every code is one, 0 and 255 too
+-- [Y1] the sub-option whose code b is at the offset `at`; bs are the bytes after b, and `rest` is what is found after it. Every code is one, 0 and 255 too
 abbrev pub subOption : ℕ → ℕ → List ℕ → Parse → Parse
 subOption at b bs rest = cond (cut bs) (beyond at) (found at (recordOf b bs) rest)
 

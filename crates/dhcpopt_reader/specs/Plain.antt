@@ -27,7 +27,7 @@ plainNumber k z = record { status = 3; kind = k; refusal = 0; number = z; length
 abbrev pub plainPart : ℕ → ℕ → ℕ → PlainContent
 plainPart status k n = record { status = status; kind = k; refusal = 0; number = pos 0; length = n }
 
--- status 1 unknown, 3 a kind with its number, 4 a kind with its part, 5 broken; the kinds are numbered 1 to 11
+-- status 1 unknown, 3 a kind with its number, 4 a kind with its part, 5 broken; the kinds are numbered 1 to 11, and 12
 abbrev pub plainContent : asked.Content → PlainContent
 plainContent (asked.unknown n) = plainPart 1 0 n
 plainContent (asked.known (broken n)) = record { status = 5; kind = 0; refusal = n; number = pos 0; length = 0 }

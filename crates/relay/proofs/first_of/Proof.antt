@@ -1,6 +1,7 @@
 -- `relay::first_of` meets its contract. Assumes nothing.
 use mathlib.Core.Path.{_≡_, refl}
 use borrow.Author.Tests.{eq-eqb, ne-eqb}
+use native.Mathlib.Omega.{arith}
 use Rattle.relay.proofs.first_of.Statement.{statement}
 use Rattle.relay.proofs.first_of.Tie as tie
 

@@ -2,6 +2,8 @@
 
 from typing import NamedTuple
 
+from codes import total
+
 # The kinds as document 01 lists them: name, codes, which lengths are right, which data is right.
 KINDS = [
     ("address", "1 16 28 32 50 54", lambda c, n: n == 4, None),
@@ -112,3 +114,53 @@ def join(met):
 def records(options):
     """A record for every option but 52."""
     return b"".join(bytes([code]) + len(option.data).to_bytes(2, "big") + option.data for code, option in options.items() if code != 52)
+
+
+# ---- Answers as C has them: a dictionary of the members that are not 0
+
+EVERY = (1 << 256) - 1  # every code known: code c at bit c
+MEMBERS = "status kind refusal field number place offset start length whole several".split()
+NAMES = "address addresses pairs flag octet number16 numbers16 unsigned32 signed32 text opaque".split()
+NUMBERS = {"address", "flag", "octet", "number16", "unsigned32", "signed32"}
+
+
+def refusal(number, place):
+    return dict(status=2, refusal=number, place=place)
+
+
+def found(known, code, option):
+    """What is answered of an option."""
+    first, data = option.first, option.data
+    a = dict(field=1 + list(FIELDS).index(first.field), offset=first.offset, start=first.start)
+    if option.pieces > 1:
+        a |= dict(several=1, whole=len(data))
+    row = row_of(code) if known >> code & 1 else None
+    if not row:
+        return a | dict(status=1, length=len(data))
+    kind, _, right_length, right = row
+    if not right_length(code, len(data)):
+        return a | dict(status=5, refusal=8, place=first.at)
+    if right and not right(code, data):
+        return a | dict(status=5, refusal=9, place=first.at)
+    a["kind"] = 1 + NAMES.index(kind)
+    if kind in NUMBERS:
+        return a | dict(status=3, number=int.from_bytes(data, "big", signed=kind == "signed32"))
+    return a | dict(status=4, length=len(data.rstrip(b"\0")) if kind == "text" else len(data))
+
+
+def plain(m, known, code):
+    if code in (0, 255):
+        return refusal(10, 0)
+    try:
+        options = join(read(m))
+    except Refused as fault:
+        return refusal(*fault.args)
+    return found(known, code, options[code]) if code in options else {}
+
+
+def code_line(m, code):
+    """What the program `sheets` prints of a code in an accepted message: every member of the lookup's answer, every code known, and the copy."""
+    answer, option = plain(m, EVERY, code), join(read(m)).get(code)
+    data = option.data if option else b""
+    copy = f"copy {0 if option else 11} {len(data)} {total(data)}"
+    return " ".join(["code", str(code)] + [str(answer.get(name, 0)) for name in MEMBERS] + [copy])

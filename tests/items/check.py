@@ -74,10 +74,10 @@ def cases(given):
     at = 0
     while at < len(given):
         call, room, fill = given[at], int.from_bytes(given[at + 1:at + 3], "big"), given[at + 3]
-        size = int.from_bytes(given[at + 4:at + 6], "big")
-        assert at + 6 + size <= len(given)
-        yield call, bytes((fill + i) & 255 for i in range(room)), given[at + 6:at + 6 + size]
-        at += 6 + size
+        size = int.from_bytes(given[at + 6:at + 8], "big")
+        assert given[at + 4:at + 6] == b"\0\0" and at + 8 + size <= len(given)
+        yield call, bytes((fill + i) & 255 for i in range(room)), given[at + 8:at + 8 + size]
+        at += 8 + size
 
 
 def main():

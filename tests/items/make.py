@@ -162,7 +162,7 @@ def main():
     stdin, stdout = b"", []
     for i, (call, why, text, room, expected) in enumerate(cases):
         data, fill = spelled(text), 160 + i % 90
-        stdin += bytes([call]) + room.to_bytes(2, "big") + bytes([fill]) + len(data).to_bytes(2, "big") + data
+        stdin += bytes([call]) + room.to_bytes(2, "big") + bytes([fill, 0, 0]) + len(data).to_bytes(2, "big") + data
         stdout += lines(call, data, room, fill, expected) + ["-"]
     OUT.mkdir(exist_ok=True)
     (OUT / "stdin").write_bytes(stdin)

@@ -6,7 +6,7 @@ from pathlib import Path
 
 HERE = Path(__file__).resolve().parent
 sys.path.append(str(HERE.parent))
-from reader import Refused, join, read, records, row_of
+from reader import Refused, code_line, join, read, records, row_of
 
 OUT = HERE.parent.parent / "crates" / "sheets"
 
@@ -128,18 +128,19 @@ def printed(permission, old, sheet):
         return "refused {} {}\n".format(*refusal.args) + f"buffer {mixed(old)}\n-\n"
     taken, count = back(m)
     sname, file = (shown if plan & 2 else mixed)(m[44:108]), (shown if plan & 1 else mixed)(m[108:236])
+    codes = "".join(code_line(m, code) + "\n" for code in (*judge(sheet), 52, 222))
     return (f"plan {plan}\nheader {mixed(m[:44])}\nsname {sname}\nfile {file}\ncookie {shown(m[236:240])}\n"
-            f"options {shown(m[240:])}\nback {'same' if taken == sheet else 'differs'}\naccepted {count}\n-\n")
+            f"options {shown(m[240:])}\nback {'same' if taken == sheet else 'differs'}\naccepted {count}\n{codes}-\n")
 
 
 def cases(given):
     at = 0
     while at < len(given):
         permission, length, fill = given[at], int.from_bytes(given[at + 1:at + 3], "big"), given[at + 3]
-        size = int.from_bytes(given[at + 4:at + 6], "big")
-        assert at + 6 + size <= len(given)
-        yield permission, bytes((fill + i) & 255 for i in range(length)), given[at + 6:at + 6 + size]
-        at += 6 + size
+        size = int.from_bytes(given[at + 6:at + 8], "big")
+        assert given[at + 4:at + 6] == b"\0\0" and at + 8 + size <= len(given)
+        yield permission, bytes((fill + i) & 255 for i in range(length)), given[at + 8:at + 8 + size]
+        at += 8 + size
 
 
 def main():

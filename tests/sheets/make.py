@@ -8,6 +8,7 @@ from pathlib import Path
 HERE = Path(__file__).resolve().parent
 sys.path.append(str(HERE.parent))
 from codes import ADDRESS, ADDRESSES, FLAG, OPAQUE, TEXT, UNKNOWN, UNSIGNED32, ramp, total
+from reader import code_line
 
 OUT = HERE.parent.parent / "crates" / "sheets"
 
@@ -18,11 +19,20 @@ USED = {"plan 0": ["options"], "plan 1": ["options", "file"], "plan 2": ["option
         "plan 3": ["options", "file", "sname"]}
 
 
-def lines(length, fill, expected):
+def tags(sheet):
+    """The tags of a sheet's records, in order."""
+    at = 0
+    while at < len(sheet):
+        yield sheet[at]
+        at += 3 + int.from_bytes(sheet[at + 1:at + 3], "big")
+
+
+def lines(length, fill, sheet, expected):
     """The lines of a case.
 
     expected is 'refused N PLACE'; or 'plan P', then each field of the plan with its bytes up to END (and the number of
-    zeros behind, where it is worth writing down), then 'accepted N', the number of options in the message."""
+    zeros behind, where it is worth writing down), then 'accepted N', the number of options in the message. What the codes of the
+    records, 52 and 222 are looked up as is read from these bytes by the second reader."""
     old = bytes((fill + i) % 256 for i in range(length))
     head, *parts = expected.split(" | ")
     if head.startswith("refused"):
@@ -32,9 +42,11 @@ def lines(length, fill, expected):
     assert list(given) == USED[head], expected
     shown = [head, f"header sum {total(old[:44])}"]
     given["cookie"] = "63 82 53 63"
+    message = old[:44]
     for name, (start, end) in PLACES.items():
         shown.append(field(name, old[start:end], given.get(name)))
-    return shown + ["back same", f"accepted {count}"]
+        message += bytes.fromhex(given[name].partition(" zeros ")[0]).ljust(len(old[start:end]), b"\0") if name in given else old[start:end]
+    return shown + ["back same", f"accepted {count}"] + [code_line(message, code) for code in (*tags(sheet), 52, 222)]
 
 
 def field(name, old, given):
@@ -71,6 +83,15 @@ def pieces(tag, data, *lengths):
     return text
 
 
+def size(text):
+    return len(bytes.fromhex(text))
+
+
+def taken(records):
+    """The bytes that the options of these records take, {code: data}."""
+    return sum(size(option(code, data)) for code, data in records.items())
+
+
 def every_permission(reason, length, sheet, *expected):
     """A case for each permission: with one expectation for all of them, or one for each."""
     return [(f"{reason}, permission {p}", p, length, sheet, expected[p % len(expected)]) for p in range(4)]
@@ -85,6 +106,7 @@ MASK = "01 00 04 FF FF FF 00 "    # 1: 6 bytes
 ROUTER = "03 00 04 0A 00 00 01 "  # 3: 6 bytes
 BROKEN = "35 00 01 FF "           # 53 with a value that is wrong by any rule of a message type: 9
 DOMAIN = "0F 00 01 61 "           # 15, a text: 3 bytes
+BARE_40 = "".join(record(c, "") for c in UNKNOWN[:40])  # 40 records without data: 120 bytes
 
 NAME_IN_FILE = "plan 1 | options 34 01 01 FF zeros 0 | file 0C 02 61 62 FF zeros 123 | accepted 2"
 NAME_IN_SNAME = "plan 2 | options 34 01 02 FF zeros 0 | sname 0C 02 61 62 FF zeros 59 | accepted 2"
@@ -391,6 +413,12 @@ FAULTS = [
     ("7: 63 and 64 are not 127 and 128", 0, 300, "3F 00 00 40 00 01 61 7F 00 00 80 00 00 BF 00 00 C0 00 00 FE 00 00 3E 00 00",
      "plan 0 | options 3F 00 40 01 61 7F 00 80 00 BF 00 C0 00 FE 00 3E 00 FF | accepted 8"),
     ("7: 64 again", 0, 300, "40 00 01 61 80 00 00 C0 00 00 40 00 01 61", "refused 7 10"),
+    # The tag that is met again stands far behind: 40 records of 3 bytes between.
+    ("7: behind 40 others", 3, 600, TYPE + BARE_40 + TYPE, "refused 7 124"),
+    ("7: a code without a row behind 40 others", 3, 600, BARE + BARE_40 + BARE, "refused 7 123"),
+    ("7: the 20th of 40 behind the others", 3, 600, BARE_40 + TYPE + record(UNKNOWN[19], "01"), "refused 7 124"),
+    ("no 7: 41 tags", 0, 330, BARE_40 + TYPE,
+     "plan 0 | options " + "".join(option(c, "") for c in UNKNOWN[:40]) + "35 01 05 FF zeros 6 | accepted 41"),
     ("7: 128 again", 0, 300, "80 00 00 40 00 01 61 80 00 00", "refused 7 7"),
     ("7 before 8: length 2", 0, 300, TYPE + "35 00 02 05 05", "refused 7 4"),
     ("7 before 8: length 0", 0, 300, TYPE + "35 00 00", "refused 7 4"),
@@ -670,34 +698,41 @@ SHORTEST.update({c: "01" for c in FLAG + TEXT + OPAQUE + [23, 37, 46, 53]})
 SHORTEST.update({13: "0102", 22: "0240", 26: "0044", 57: "0240", 25: "0044", 61: "0102", 68: "",
                  21: "0102030405060708", 33: "0102030405060708"})
 ROWS = sorted(SHORTEST)
-# With these the options take 349 bytes; 178 codes without a row and without data take 356. Beside 52 and END 1,228 bytes are to
-# be had, 523 more, which 62, 63 and 77 take as data. 253 and 254 are for file and sname.
-MOST = {**SHORTEST, **{c: "" for c in UNKNOWN[3:-2]}, 62: ramp(255), 63: ramp(255), 77: ramp(13)}
+# Beside 52 and END the options have 1,228 bytes. Every tag but 52 has a record; the last two are for file and sname; the first three codes without a row
+# take as data what the others leave of the 1,228 bytes. Counts and places are counted here, since codes get and lose rows.
+FILLERS, IN_FILE, IN_SNAME = UNKNOWN[:3], UNKNOWN[-2], UNKNOWN[-1]
+MOST = {**SHORTEST, **{c: "" for c in UNKNOWN[:-2]}}
+LEFT = 1228 - taken(MOST)
+MOST.update(zip(FILLERS, (ramp(255), ramp(255), ramp(LEFT - 510))))
 MOST_SHEET = "".join(record(c, MOST[c]) for c in sorted(MOST))
 MOST_OPTIONS = "".join(option(c, MOST[c]) for c in sorted(MOST))
+WHOLE = MOST_SHEET + record(IN_FILE, ramp(125)) + record(IN_SNAME, ramp(61))
+assert len(MOST) == 251 and taken(MOST) == 1228 and size(WHOLE) == 1671
+FROM_100 = [c for c in UNKNOWN if c >= 100][:47]
+ROWS_BACKWARDS = list(reversed(ROWS))
 MANY = [
     # 253 records; their options fill 1,228 + 127 + 63 bytes, and a record takes one more each: 1,671. No longer sheet is accepted.
-    *every_permission("every tag, every byte of all fields: the longest sheet that is accepted", 1472,
-                      MOST_SHEET + "FD 00 7D" + ramp(125) + "FE 00 3D" + ramp(61),
+    *every_permission("every tag, every byte of all fields: the longest sheet that is accepted", 1472, WHOLE,
                       "refused 11 1472", "refused 11 1472", "refused 11 1472",
-                      "plan 3 | options 34 01 03" + MOST_OPTIONS + "FF zeros 0 | file FD 7D" + ramp(125)
-                      + "FF zeros 0 | sname FE 3D" + ramp(61) + "FF zeros 0 | accepted 254"),
-    ("every tag, one byte more in sname", 3, 1472, MOST_SHEET + "FD 00 7D" + ramp(125) + "FE 00 3E" + ramp(62), "refused 11 1472"),
-    ("every tag, one byte more in file", 3, 1472, MOST_SHEET + "FD 00 7E" + ramp(126) + "FE 00 3D" + ramp(61), "refused 11 1472"),
-    ("every tag, one byte less of options", 3, 1471, MOST_SHEET + "FD 00 7D" + ramp(125) + "FE 00 3D" + ramp(61), "refused 11 1471"),
-    ("every tag, one again at the end", 3, 1472, MOST_SHEET + "FD 00 00 FE 00 00 FD 00 00", "refused 7 1485"),
-    ("every code without a row, no data", 0, 601, "".join(record(c, "") for c in UNKNOWN),
-     "plan 0 | options " + "".join(option(c, "") for c in UNKNOWN) + "FF zeros 0 | accepted 180"),
-    ("every code without a row, 4 bytes", 0, 1321, "".join(record(c, "00FF00FF") for c in UNKNOWN),
-     "plan 0 | options " + "".join(option(c, "00FF00FF") for c in UNKNOWN) + "FF zeros 0 | accepted 180"),
-    ("codes without a row, 0 to 46 bytes", 0, 1416, "".join(record(100 + n, ramp(n)) for n in range(47)),
-     "plan 0 | options " + "".join(option(100 + n, ramp(n)) for n in range(47)) + "FF zeros 0 | accepted 47"),
+                      "plan 3 | options 34 01 03" + MOST_OPTIONS + "FF zeros 0 | file " + option(IN_FILE, ramp(125))
+                      + "FF zeros 0 | sname " + option(IN_SNAME, ramp(61)) + "FF zeros 0 | accepted 254"),
+    ("every tag, one byte more in sname", 3, 1472, MOST_SHEET + record(IN_FILE, ramp(125)) + record(IN_SNAME, ramp(62)), "refused 11 1472"),
+    ("every tag, one byte more in file", 3, 1472, MOST_SHEET + record(IN_FILE, ramp(126)) + record(IN_SNAME, ramp(61)), "refused 11 1472"),
+    ("every tag, one byte less of options", 3, 1471, WHOLE, "refused 11 1471"),
+    ("every tag, one again at the end", 3, 1472, MOST_SHEET + record(IN_FILE, "") + record(IN_SNAME, "") + record(IN_FILE, ""), f"refused 7 {size(MOST_SHEET) + 6}"),
+    ("every code without a row, no data", 0, 241 + 2 * len(UNKNOWN), "".join(record(c, "") for c in UNKNOWN),
+     "plan 0 | options " + "".join(option(c, "") for c in UNKNOWN) + f"FF zeros 0 | accepted {len(UNKNOWN)}"),
+    ("every code without a row, 4 bytes", 0, 241 + 6 * len(UNKNOWN), "".join(record(c, "00FF00FF") for c in UNKNOWN),
+     "plan 0 | options " + "".join(option(c, "00FF00FF") for c in UNKNOWN) + f"FF zeros 0 | accepted {len(UNKNOWN)}"),
+    ("codes without a row, 0 to 46 bytes", 0, 1416, "".join(record(c, ramp(n)) for n, c in enumerate(FROM_100)),
+     "plan 0 | options " + "".join(option(c, ramp(n)) for n, c in enumerate(FROM_100)) + "FF zeros 0 | accepted 47"),
     ("codes without a row, some greater lengths", 0, 1246, "".join(record(n, ramp(n)) for n in (100, 127, 128, 129, 254))
      + "FD 00 FF" + ramp(255), "plan 0 | options " + "".join(option(n, ramp(n)) for n in (100, 127, 128, 129, 254))
      + "FD FF" + ramp(255) + "FF zeros 0 | accepted 6"),
-    ("every code with a row", 0, 590, "".join(record(c, SHORTEST[c]) for c in ROWS),
-     "plan 0 | options " + "".join(option(c, SHORTEST[c]) for c in ROWS) + "FF zeros 0 | accepted 73"),
-    ("every code with a row, 1 last", 0, 590, "".join(record(c, SHORTEST[c]) for c in reversed(ROWS)), "refused 14 401"),
+    ("every code with a row", 0, 241 + taken(SHORTEST), "".join(record(c, SHORTEST[c]) for c in ROWS),
+     "plan 0 | options " + "".join(option(c, SHORTEST[c]) for c in ROWS) + f"FF zeros 0 | accepted {len(ROWS)}"),
+    ("every code with a row, 1 last", 0, 241 + taken(SHORTEST), "".join(record(c, SHORTEST[c]) for c in ROWS_BACKWARDS),
+     f"refused 14 {size(''.join(record(c, SHORTEST[c]) for c in ROWS_BACKWARDS[:ROWS_BACKWARDS.index(3)]))}"),
     ("the longest address lists", 0, 1257, "".join(record(c, ramp(252)) for c in (3, 41, 68, 76)),
      "plan 0 | options " + "".join(option(c, ramp(252)) for c in (3, 41, 68, 76)) + "FF zeros 0 | accepted 4"),
     ("the longest text, opaque and 16-bit list", 0, 1011, record(12, "61" * 255) + record(61, ramp(255)) + record(25, "0044" * 127),
@@ -795,8 +830,8 @@ def main():
     given, printed = b"", []
     for reason, permission, length, text, expected, *first in cases:
         sheet, fill = bytes.fromhex(text), first[0] if first else FILL
-        given += bytes([permission]) + length.to_bytes(2, "big") + bytes([fill]) + len(sheet).to_bytes(2, "big") + sheet
-        printed += lines(length, fill, expected) + ["-"]
+        given += bytes([permission]) + length.to_bytes(2, "big") + bytes([fill, 0, 0]) + len(sheet).to_bytes(2, "big") + sheet
+        printed += lines(length, fill, sheet, expected) + ["-"]
     OUT.mkdir(parents=True, exist_ok=True)
     (OUT / "stdin").write_bytes(given)
     (OUT / "stdout").write_text("\n".join(printed) + "\n")

@@ -43,14 +43,31 @@ def mixed(bytes_):
     total = 0
     for byte in bytes_:
         total = (total * 31 + byte) % 1000003
-    return f"{len(bytes_)} {total}"
+    return total
+
+
+def filled(room, data=b"", refusal=None):
+    """A lent buffer of rising bytes after a call: what was given, or the refusal, and the sum of what stayed."""
+    kept = mixed([(160 + i) & 255 for i in range(len(data), room)])
+    return f"{refusal} rest {kept}" if refusal else f"{len(data)} {mixed(data)} rest {kept}"
+
+
+def copied(m, code, room):
+    """The copy of a code: refused as the reader refuses, then 11 where it is absent, at 0, or too long, at the room."""
+    refusal = answer(m, (), code)
+    if not refusal.startswith("refused"):
+        option = join(read(m)).get(code)
+        refusal = "refused 11 0" if option is None else f"refused 11 {room}" if len(option.data) > room else None
+    return f"copy {code} " + filled(room, b"" if refusal else option.data, refusal)
 
 
 def printed(m):
     try:
         met = read(m)
     except Refused as fault:
-        return "refused {} {}\n-\n".format(*fault.args)
+        refusal = "refused {} {}".format(*fault.args)
+        present = "present 0 0 0 0 count 0 lowest 0 refusal {} {}".format(*fault.args)
+        return f"{refusal}\n{present}\n{copied(m, 53, 1472)}\nrecords {filled(2048, refusal=refusal)}\n-\n"
     options = join(met)
     out = f"accepted {len(met)}\n"
     for piece in met:
@@ -58,13 +75,11 @@ def printed(m):
     marks = sum(1 << code for code in options)
     words = struct.unpack("<4Q", marks.to_bytes(32, "little"))
     lowest = next((code for code in range(1, 255) if code in options), 0)
-    out += "present {} {} {} {} count {} lowest {}\n".format(*words, bin(marks).count("1"), lowest)
+    out += "present {} {} {} {} count {} lowest {} refusal 0 0\n".format(*words, bin(marks).count("1"), lowest)
     for piece in met:
         option = options[piece.code]
-        out += f"{piece.code} {look_up(EVERY, piece.code, option)}\n"
-        if option.pieces > 1:
-            out += f"copy {piece.code} {mixed(option.data)}\n"
-    return out + f"records {mixed(records(options))}\n-\n"
+        out += f"{piece.code} {look_up(EVERY, piece.code, option)}\n{copied(m, piece.code, 1472)}\n"
+    return out + f"records {filled(2048, records(options))}\n-\n"
 
 
 # --- The lines after the cases ------------------------------------------------------------------------------------------
@@ -194,12 +209,13 @@ def extra():
     lines += [f"text {code} {text(m, EVERY, code)}" for code in (12, 15, 53, 50, 0)]
     lines += [f"text 12 {text(m, (), 12)}"]
     lines += [f"walk {code}{steps(m, code)}" for code in (3, 4, 6, 50)]
-    records = printed(m).splitlines()[-2]
-    needed = int(records.split()[1])
-    lines += [records, f"records refused 11 {needed - 1}"]
+    sheet = records(join(read(m)))
+    lines += [f"records {filled(53, sheet)}", f"records {filled(52, refusal='refused 11 52')}"]
+    assert len(sheet) == 53
+    lines += [copied(m, code, room) for code, room in ((12, 3), (3, 8), (51, 8), (51, 3), (50, 8), (0, 8), (255, 8))]
     lines += [f"{code} {answer(zeros, EVERY, code)}" for code in (12, 0)]
-    lines += [f"data 12 {data(zeros, 12)}", f"text 12 {text(zeros, EVERY, 12)}", "present 0 0 0 0 count 0 lowest 0"]
-    lines += [f"records {printed(zeros).splitlines()[0]}"]
+    lines += [f"data 12 {data(zeros, 12)}", f"text 12 {text(zeros, EVERY, 12)}", "present 0 0 0 0 count 0 lowest 0 refusal 3 236"]
+    lines += [f"records {filled(9, refusal='refused 3 236')}", copied(zeros, 12, 9), copied(zeros, 0, 9)]
     lines += [f"steps {code}{steps(m, code)}" for code in (3, 4, 6, 50)]
     lines += index_lines(m)
     return "".join(line + "\n" for line in lines)
@@ -208,9 +224,10 @@ def extra():
 def main():
     given, place, messages = (OUT / "stdin").read_bytes(), 0, []
     while place < len(given):
-        length = given[place] * 256 + given[place + 1]
-        messages.append(given[place + 2:place + 2 + length])
-        place += 2 + length
+        assert given[place:place + 6] == bytes(6)
+        length = given[place + 6] * 256 + given[place + 7]
+        messages.append(given[place + 8:place + 8 + length])
+        place += 8 + length
     assert place == len(given)
     text = (OUT / "stdout").read_text()
     expected, lines = [], []

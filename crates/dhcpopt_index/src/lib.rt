@@ -18,10 +18,16 @@ ghost use Rattle.kinds.specs.Numbers.{rowAt, valueFaultIn};
 ghost use Rattle.lookup.specs.Found.{valueOf, contentBy};
 ghost use Rattle.dhcpopt_reader.specs.Plain.{plainNumber, plainContent, plainAnswer};
 ghost use Rattle.dhcpopt_index.specs.Found.{textContent, relayContent, spanAt, foundAt};
+ghost use Rattle.dhcpopt_index.specs.Built.{BuildKept};
 use dhcpopt_reader::PlainAnswer;
 use dhcpopt_reader::PlainContent;
 use filled::PlainFilled;
 use message::Field;
+
+// No refusal of building has number 0, and none changes a number.
+pub fn proved()
+    ensures { λ _. ⌜ BuildKept ⌝ }
+{}
 
 // Builds the index of a message: the place of each code's byte, 0 where it is absent, 65,535 where it comes in pieces.
 #[no_mangle]

@@ -11,6 +11,7 @@ ghost use Rattle.options.specs.Answers.{lookup, dataOf, textOf, addressStep, pr
 ghost use Rattle.message.specs.Fields.{fieldOf};
 ghost use Rattle.lookup.specs.Shown.{contentOf, wholenessOf, originOf, answerOf, extentOf};
 ghost use Rattle.dhcpopt_reader.specs.Plain.{plainNumber, plainPart, plainContent, fieldNumber, plainWhole, plainSeveral, plainFound, plainRefusal, plainAnswer, Near, plainExtent, plainAddress, plainCodes};
+ghost use Rattle.dhcpopt_reader.specs.Plain.{AnswerByCase, ExtentByCase, AddressByCase, CodesByCase, RecordsKept, CopyKept, VendorKept};
 ghost use Rattle.options.specs.Answers as answers;
 ghost use Rattle.filled.specs.Plain.{plainFilled};
 ghost use Rattle.options.specs.Vendor.{vendorRecords};
@@ -92,6 +93,11 @@ pub struct PlainCodes {
     pub refusal: u32,
     pub place: usize,
 }
+
+// Each struct has the numbers that the rules give each case; no refusal of a call that fills a buffer has number 0, and none changes a byte.
+pub fn proved()
+    ensures { λ _. ⌜ AnswerByCase × ExtentByCase × AddressByCase × CodesByCase × RecordsKept × CopyKept × VendorKept ⌝ }
+{}
 
 pub fn from_unsigned(n: u32) -> i64
     ensures { λ r. ⌜ r ≡ pos n ⌝ }

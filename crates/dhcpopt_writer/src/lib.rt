@@ -7,7 +7,8 @@ ghost use Rattle.options.specs.Relay.{relayWrite};
 ghost use Rattle.options.specs.Grouped as grouped;
 ghost use Rattle.groups.specs.Check.{plainChecked};
 ghost use Rattle.filled.specs.Plain.{plainFilled};
-ghost use Rattle.dhcpopt_writer.specs.Plain.{plainWrote, plainOf};
+ghost use Rattle.dhcpopt_writer.specs.Plain.{plainWrote, plainOf, WroteByCase, VendorKept};
+ghost use Rattle.dhcpopt_writer.specs.Grouped.{ChoiceKept, MoveKept, BackKept};
 use filled::PlainFilled;
 use groups::PlainChecked;
 use plan::Choice;
@@ -19,6 +20,11 @@ pub struct PlainWrote {
     pub plan: u32,
     pub place: usize,
 }
+
+// The struct has the numbers that the rules give each case; no refusal of a call that fills a buffer has number 0, and none changes a byte.
+pub fn proved()
+    ensures { λ _. ⌜ WroteByCase × VendorKept × ChoiceKept × MoveKept × BackKept ⌝ }
+{}
 
 fn of_choice(c: Choice) -> PlainWrote
     ensures { λ r. ⌜ r ≡ plainOf c ⌝ }

@@ -4,21 +4,6 @@ use console::word;
 use filled::PlainFilled;
 use message::part;
 
-// Whether a and b have the same bytes.
-fn same(a: &[u8], b: &[u8]) -> bool {
-    if a.len() != b.len() {
-        return false;
-    }
-    let mut i: usize = 0;
-    while i < a.len() {
-        if a[i] != b[i] {
-            return false;
-        }
-        i = i + 1;
-    }
-    true
-}
-
 // What was given: the bytes, or the refusal; and a sum of the bytes of the buffer past them.
 fn shown(g: PlainFilled, out: &[u8]) {
     if g.refusal != 0 {
@@ -38,7 +23,7 @@ fn back(sheet: &[u8], bytes: &[u8]) {
     let g = dhcpopt_reader::dhcpopt_vendor_records(bytes, &mut out);
     if g.refusal != 0 {
         console::two(b"back refused", g.refusal as usize, g.place);
-    } else if same(sheet, part(&out, 0, g.size)) {
+    } else if check::same(sheet, part(&out, 0, g.size)) {
         word(b"back same");
     } else {
         word(b"back differs");
@@ -72,30 +57,17 @@ fn case(call: u8, bytes: &[u8], out: &mut [u8]) {
     write(bytes, out);
 }
 
-// Reads as many bytes as `bytes` has and prints their lines.
-fn body(bytes: &mut [u8], out: &mut [u8], first: u8, call: u8) {
-    let n = io::read_full(0, bytes);
-    console::fill(out, first);
-    case(call, &bytes[..n], out);
-}
-
 // Reads one case and prints its lines; false at the end of the input.
 fn next() -> bool {
-    let mut head = [0u8; 6];
-    if io::read_full(0, &mut head) < 6 {
-        return false;
-    }
-    let room = num::be16(head[1], head[2]) as usize;
-    let size = num::be16(head[4], head[5]) as usize;
-    if 5000 < room {
-        return false;
-    }
-    if 5000 < size {
-        return false;
-    }
-    let mut out = [0u8; 5000];
+    let mut name = [0u8; 1];
     let mut bytes = [0u8; 5000];
-    body(&mut bytes[..size], &mut out[..room], head[3], head[0]);
+    let mut out = [0u8; 5000];
+    let c = console::next(&mut name, &mut bytes, &mut out);
+    if !c.there {
+        return false;
+    }
+    let room = c.room;
+    case(c.call, part(&bytes, 0, c.size), &mut out[..room]);
     true
 }
 

@@ -5,7 +5,7 @@ ghost use Prim.Native.Nat.{_<_, _≤_, _%_};
 ghost use Rattle.options.specs.Reading.{among};
 ghost use Rattle.options.specs.Kinds.{kindOf, multiples, isLength, addressesOf, numbersOf, rising, noZeroFirst, trimmed, fromTo, textFits, orNine};
 ghost use Rattle.options.specs.SubOptions.{subOptions, fillFault};
-ghost use Rattle.kinds.specs.Numbers.{kindNumber, rowAt, kindNumbered, faultOf, faultNumbered, lengthFits, valueFaultIn, isList, listFault, shortListFault, numberFault};
+ghost use Rattle.kinds.specs.Numbers.{kindNumber, rowAt, kindNumbered, faultOf, faultNumbered, lengthFits, valueFaultIn, isList, listFault, shortListFault, numberFault, NumbersKeepTheKind, FaultsKeepTheNumber};
 ghost use Rattle.kinds.specs.Parts.{octetFits, number16Fits};
 
 // The kinds as numbers (document 01, The kinds): its rows in their order, and 0 for a code that has none.
@@ -353,3 +353,8 @@ pub fn suboptions_fault(d: &[u8]) -> u8
     }
     0
 }
+
+// The statements of specs/ hold.
+pub fn proved()
+    ensures { λ _. ⌜ NumbersKeepTheKind × FaultsKeepTheNumber ⌝ }
+{}

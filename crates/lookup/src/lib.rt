@@ -14,7 +14,7 @@ ghost use Rattle.buffer.specs.Written.{Written};
 ghost use Rattle.text.specs.Text.{Puts};
 ghost use Rattle.gather.specs.Joined.{joinedFrom};
 ghost use Rattle.filled.specs.Fill.{Fills};
-ghost use Rattle.lookup.specs.Shown.{contentOf, wholenessOf, originOf, answerOf, extentOf};
+ghost use Rattle.lookup.specs.Shown.{contentOf, wholenessOf, originOf, answerOf, extentOf, ContentByCase, OriginByCase, AnswerByCase, ExtentByCase};
 ghost use Rattle.kinds.specs.Numbers.{kindAt, rowAt, isList, listFault, numberFault};
 ghost use Rattle.lookup.specs.Found.{originAt, valueOf, knownRow, contentBy, meaningOf, judgedOf, severalAt, sizeAt, dataAt, InPieces, clipped};
 use filled::Given;
@@ -66,6 +66,11 @@ pub struct Extent {
     pub start: usize,
     pub len: usize,
 }
+
+// Each name stands for the answer that the rules have under it, with its numbers.
+pub fn proved()
+    ensures { λ _. ⌜ ContentByCase × OriginByCase × AnswerByCase × ExtentByCase ⌝ }
+{}
 
 // What data that keeps the rules of its kind means.
 fn value(k: u8, d: &[u8]) -> Content

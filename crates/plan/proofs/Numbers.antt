@@ -1,4 +1,4 @@
--- No refusal has number 0, and an answer loses nothing. Assumes nothing.
+-- The answer case by case; no refusal has number 0. Assumes nothing.
 use mathlib.Core.Path.{_≡_, refl, sym, _∙_}
 use mathlib.Core.List.{List, [], _∷_}
 use mathlib.Core.Bool.{Bool, true, false, cond}
@@ -14,11 +14,10 @@ use Rattle.options.specs.Writing.{splitAll, Wrote, wrote, declined, planFits, w
 use Rattle.theorems.proofs.View.{clash}
 use Rattle.sheet.specs.Judge.{judgeOf}
 use Rattle.sheet.proofs.Verdicts.{verdict-settles}
-use Rattle.plan.specs.Answer.{AnswerLosesNothing, RefusalsAreNumbered}
+use Rattle.plan.specs.Answer.{ChoiceByCase, RefusalsAreNumbered}
 
-pub answer-loses-nothing : AnswerLosesNothing
-answer-loses-nothing single (wrote p w) m = refl
-answer-loses-nothing single (declined n p) m = refl
+pub choice-by-case : ChoiceByCase
+choice-by-case single plan n p w = (refl, refl)
 
 -- what declines does so by a number other than 0
 abbrev Numbered : Wrote → Type 0

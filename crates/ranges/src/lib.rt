@@ -2,7 +2,7 @@
 ghost use mathlib.Core.Path.{_≡_};
 ghost use Prim.Native.Nat.{_<_, _≤_, _%_};
 ghost use lib.Dec.{eqb};
-ghost use Rattle.ranges.specs.Rows.{rowNumber};
+ghost use Rattle.ranges.specs.Rows.{rowNumber, NumbersKeepTheRow};
 ghost use Rattle.ranges.specs.Words.{rangeRow, GivesRowOf, inRanges};
 
 // The last code of the ranges below. Of those above it one has a row: relay information (document 02, request 09).
@@ -141,3 +141,8 @@ fn in_ranges(firsts: u64, ends: u64, c: u8) -> bool
     let ended = (places - ends) & 0x8080_8080_8080_8080;
     begun != ended
 }
+
+// The statements of specs/ hold.
+pub fn proved()
+    ensures { λ _. ⌜ NumbersKeepTheRow ⌝ }
+{}

@@ -24,7 +24,8 @@ use Rattle.filled.specs.Fill.{Fills}
 use Rattle.filled.specs.declared.Given.the-variants.{Bytes, Refused}
 use Rattle.vendor_writer.specs.declared.Judged.{Judged}
 use Rattle.vendor_writer.specs.Judge.{judgeOf, AllBrief}
-use Rattle.vendor_writer.proofs.Outcomes.{other-number, to-end, short-brief}
+use Rattle.writing_theorems.proofs.SheetSteps.{read-to-end}
+use Rattle.vendor_writer.proofs.Outcomes.{other-number, short-brief}
 
 -- no refusal has the number 0
 faulty-number : (seen : List ℕ) (w : Walk) (n p : ℕ) → ruled relayRules seen w ≡ faulty n p → n ≡ 0 → ⊥
@@ -79,7 +80,7 @@ module _ (s : List ℕ) (j : Judged) (e : j ≡ judgeOf (relaySheet s)) where
   sound-as rs q =
       let is : recordsLeft s 0 ≡ rs = sound-records relayRules [] (recordsFrom 0 0 s) rs q in
       let b : AllBrief rs = brief-of (passes relayRules [] (recordsFrom 0 0 s) rs q) in
-      let n : 0 + length (recordBytes (recordsLeft s 0)) ≡ length s = to-end (reads s) (sound-uncut relayRules [] (recordsFrom 0 0 s) rs q) (omega arith) in
+      let n : 0 + length (recordBytes (recordsLeft s 0)) ≡ length s = read-to-end (reads s) (sound-uncut relayRules [] (recordsFrom 0 0 s) rs q) (omega arith) in
       (is, b, record { to-end = n; short = subst AllShort (sym is) (short-brief rs b) })
 
   pub is-sound : j .number ≡ 0 → Sound s j

@@ -19,7 +19,7 @@ use Rattle.options.specs.AnswerClaims.{JoinedBytes, GivesLength}
 use Rattle.options.specs.SheetWalk.{AllShort, Sheet, sound, faulty, isBroken}
 use Rattle.options.specs.Writing.{with52, splitUp, splitAll, written, pastSname, sheet, Wrote, wrote, declined, isNil, planFits, inOrder, plans, tryPlans, afterSheet, writer}
 use Rattle.options.specs.WriterClaims.{Has, allData}
-use Rattle.options.specs.WritingClaims.{RecordIn, NoRecord, SameRecord, WrittenIsAccepted, SheetComesBack, BytesOf, SameButPlace, both-absent, both-found, IsKind, is-number, is-part, wholenessFor, ReadsAsUnknown, Demand3, Demand3OfKinds}
+use Rattle.options.specs.WritingClaims.{RecordIn, NoRecord, SameRecord, WrittenIsAccepted, SheetComesBack, BytesOf, SameButPlace, both-absent, both-found, IsKind, is-number, is-part, wholenessFor, ReadsAsUnknown, Demand3Known, Demand3Others, Demand3, Demand3OfKinds}
 use Rattle.theorems.proofs.View.{clash}
 use Rattle.theorems.proofs.Pieces.{pieces-right}
 use Rattle.theorems.proofs.Lookup.{asked, lookup-found}
@@ -225,11 +225,9 @@ kind-shown t set c d g k unbroken = rw k (go (t .value c d) unbroken)
     go (number x z) b = is-number
     go (part x n) b = is-part
 
-pub demand-3 : Demand3
-demand-3 t proper set s s′ m m′ permission permission′ plan plan′ w w′ all all′ e e′ same-records c l u n52 = (
-  (λ k. record { same = same (same-records c k); absent-iff = nowhere (same-records c k); else-kind = kind k }),
-  (λ k. (reads-as-unknown t s w all a c n52 set l u k, reads-as-unknown t s′ w′ all′ a′ c n52 set l u k)),
-)
+pub demand-3-known : Demand3Known
+demand-3-known t proper set s s′ m m′ permission permission′ plan plan′ w w′ all all′ e e′ c l u n52 k same-record =
+    record { same = same same-record; absent-iff = nowhere same-record; else-kind = kind }
   where
     a : Accepted t s w
     a = accepts t s m permission plan w e
@@ -256,10 +254,19 @@ demand-3 t proper set s s′ m m′ permission permission′ plan plan′ w w′
         (both-found (h .told ∙ sym (h′ .told))
         (λ n g. (take n (r .0), bytes-given t proper set c (r .0) w n (h .joined) g, bytes-given t proper set c (r .0) w′ n (h′ .joined) g)))
 
-    kind : isKnown t set c ≡ true → (d : List ℕ) → RecordIn c d s → IsKind (lookup t set w c)
-    kind k d r =
+    kind : (d : List ℕ) → RecordIn c d s → IsKind (lookup t set w c)
+    kind d r =
         let h = record-shown t s w all a c n52 set l u d r in
         rw (h .is) (kind-shown t set c d (h .origin) k (unbroken t s w all a c n52 set l u k d r))
+
+pub demand-3-others : Demand3Others
+demand-3-others t set s m permission plan w all e c l u n52 k = reads-as-unknown t s w all (accepts t s m permission plan w e) c n52 set l u k
+
+pub demand-3 : Demand3
+demand-3 t proper set s s′ m m′ permission permission′ plan plan′ w w′ all all′ e e′ same-records c l u n52 = (
+  (λ k. demand-3-known t proper set s s′ m m′ permission permission′ plan plan′ w w′ all all′ e e′ c l u n52 k (same-records c k)),
+  (λ k. (demand-3-others t set s m permission plan w all e c l u n52 k, demand-3-others t set s′ m′ permission′ plan′ w′ all′ e′ c l u n52 k)),
+)
 
 pub demand-3-of-kinds : Demand3OfKinds
 demand-3-of-kinds words = demand-3 kinds kinds-proper (marked words)

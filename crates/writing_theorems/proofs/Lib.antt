@@ -22,6 +22,7 @@ pub mod Tries
 pub mod Writer
 pub mod Declined
 pub mod WriterOnly
+pub mod Options
 -- The writer over any list of plans
 pub mod Trying
 -- Cases of long records, computed

@@ -7,7 +7,7 @@ use Prim.Native.Nat.{ℕ, _+_, _*_, _≤_, _<_}
 use lib.ListN.{length, take}
 use Rattle.options.specs.Message.{Rec}
 use Rattle.options.specs.Kinds.{relay, Value, broken, part, kinds}
-use Rattle.options.specs.KindClaims.{AllBytes, SubOptionsAre}
+use Rattle.options.specs.KindClaims.{OneOf, FromTo, AllBytes, SubOptionsAre}
 use Rattle.options.specs.Answers.{given, declined, Filled, unfilled}
 use Rattle.options.specs.Sheet.{RecordBegins, Listed}
 use Rattle.options.specs.SheetRefusals.{RecordBeyond}
@@ -60,6 +60,10 @@ RelayReaderIsCorrect = (f old : List ℕ) (w : RelayRead) → relayRecords f old
 abbrev pub RelayReadsTheRow : Type 0
 RelayReadsTheRow = (f old : List ℕ) → ((i : ℕ) × (relayRecords f old .filled .answer ≡ declined 8 i)) ↔ (kinds .value 82 f ≡ broken 8)
 
+-- "A room of 2 * size is always enough": so include/dhcpopt.h promises
+abbrev pub RelayRoomIsEnough : Type 0
+RelayRoomIsEnough = (f old : List ℕ) (r : Rec) (rs : List Rec) (b : List ℕ) → SubOptionsAre (r ∷ rs) f → RecordsAre (r ∷ rs) b → 2 * length f ≤ length old → relayRecords f old .filled ≡ filled b old
+
 -- ---- The writer
 
 -- [O13] `RelayRow s n i rank`: row n applies to the record whose tag byte is at place i of the sheet s; "no tag is a 10", so that 12 and 13 are left
@@ -91,6 +95,17 @@ pub data WritesRelay (s out : List ℕ) : Filled → Type 0 where
 -- no other answer is right, for a sheet of bytes, as every sheet handed to the code is
 abbrev pub RelayWriterIsCorrect : Type 0
 RelayWriterIsCorrect = (s out : List ℕ) (w : Filled) → AllBytes s → relayWrite s out ≡ w ↔ WritesRelay s out w
+
+-- "No more room than DHCPOPT_LONGEST_RELAY is needed": so include/dhcpopt.h promises
+abbrev pub RelayWriteRoomIsEnough : Type 0
+RelayWriteRoomIsEnough =
+    (s out : List ℕ) (r : Rec) (rs : List Rec) (b : List ℕ) → AllBytes s → length s ≤ 4096 → RightRelay s (r ∷ rs) → SubOptionsAre (r ∷ rs) b → length b ≤ 255 → 255 ≤ length out → relayWrite s out ≡ filled b out
+
+-- "dhcpopt_relay_records gives 8 and 11, dhcpopt_relay_write 8, 11 to 13 and 16": so include/dhcpopt.h promises
+abbrev pub RelayNumbers : Type 0
+RelayNumbers =
+    ((f old : List ℕ) (n p : ℕ) → relayRecords f old .filled .answer ≡ declined n p → OneOf n (8 ∷ 11 ∷ []))
+    × ((s out : List ℕ) (n p : ℕ) → AllBytes s → relayWrite s out .answer ≡ declined n p → OneOf n (8 ∷ 16 ∷ []) ⊎ FromTo 11 13 n)
 
 -- ---- What was given: n bytes, at the start of w
 

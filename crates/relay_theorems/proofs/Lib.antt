@@ -8,5 +8,7 @@ pub mod Row
 -- Writing: the rows, what is given, that it comes back and keeps the row
 pub mod Rows
 pub mod Writing
+-- Room enough, and the numbers given
+pub mod Numbers
 -- Cases, computed
 pub mod RelayCases

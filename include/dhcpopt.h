@@ -169,7 +169,8 @@ enum dhcpopt_limit {
     X(FINGER_SERVER, 73, "Finger server")                                  \
     X(IRC_SERVER, 74, "IRC server")                                        \
     X(STREETTALK_SERVER, 75, "StreetTalk server")                          \
-    X(STDA_SERVER, 76, "STDA server")
+    X(STDA_SERVER, 76, "STDA server")                                      \
+    X(RELAY_AGENT_INFORMATION, 82, "relay agent information")
 
 enum dhcpopt_code {
 #define DHCPOPT_ROW(name, code, option) DHCPOPT_CODE_##name = code,
@@ -620,6 +621,8 @@ static inline const char *dhcpopt_kind_name(uint32_t kind)
         return "text";
     case DHCPOPT_KIND_OPAQUE:
         return "opaque";
+    case DHCPOPT_KIND_RELAY:
+        return "relay";
     default:
         return "";
     }
@@ -673,6 +676,8 @@ static inline const char *dhcpopt_refusal_name(uint32_t refusal)
         return "too deep";
     case DHCPOPT_REFUSED_NO_WAY_BACK:
         return "no way back";
+    case DHCPOPT_REFUSED_RELAY_NOT_LAST:
+        return "relay not last";
     default:
         return "";
     }

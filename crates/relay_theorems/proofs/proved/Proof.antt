@@ -8,7 +8,7 @@ use Rattle.relay_theorems.proofs.Numbers.{relay-room-is-enough, relay-w
 use Rattle.relay_theorems.proofs.RelayCases.{relay-cases-hold}
 
 returns : tie.Need-returns
-returns c = (relay-reader-is-correct, relay-reads-the-row, relay-room-is-enough, relay-writer-is-correct, relay-write-room-is-enough, relay-numbers, relay-comes-back, written-keeps-the-row, relay-cases-hold)
+returns c = (relay-reader-is-correct, relay-reads-the-row, relay-room-is-enough, relay-writer-is-correct, relay-write-room-is-enough, relay-numbers, relay-comes-back, written-keeps-the-row, relay-cases-hold, relay-cases-hold .2)
 
 pub proved-spec : {M : Type 1} → statement M
 proved-spec = tie.close (tie.spec returns)

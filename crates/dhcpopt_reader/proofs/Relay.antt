@@ -73,13 +73,14 @@ first-from-two c (x ∷ xs) = go (eqb (x .item .tag) c) (first-from-two c xs)
     go true h = omega arith
     go false h = h
 
+abbrev readOr : Bool → List Item → List ℕ → asked.RelayRead
+readOr b xs old = cond b (asked.noRelay 11 (length old) old) (record { filled = filledWith (recordBytes (itemRecords xs)) old; circuit = asked.idIn 1 xs; remote = asked.idIn 2 xs })
+
 ids-in : (w : Items) (old : List ℕ) → FromTwo (asked.relayIn w old .circuit) × FromTwo (asked.relayIn w old .remote)
 ids-in (past i) old = (tt, tt)
 ids-in (listed xs) old = go (ltb (length old) (length (recordBytes (itemRecords xs))))
   where
-    abbrev read : Bool → asked.RelayRead
-    read b = cond b (asked.noRelay 11 (length old) old) (record { filled = filledWith (recordBytes (itemRecords xs)) old; circuit = asked.idIn 1 xs; remote = asked.idIn 2 xs })
-    go : (b : Bool) → FromTwo (read b .circuit) × FromTwo (read b .remote)
+    go : (b : Bool) → FromTwo (readOr b xs old .circuit) × FromTwo (readOr b xs old .remote)
     go true = (tt, tt)
     go false = (first-from-two 1 xs, first-from-two 2 xs)
 

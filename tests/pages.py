@@ -16,10 +16,10 @@ sys.path.insert(0, str(ROOT / "tests"))
 from reader import row_of  # noqa: E402
 
 KINDS = {"address": "ADDRESS", "addresses": "ADDRESS_LIST", "pairs": "ADDRESS_PAIRS", "flag": "FLAG", "octet": "BYTE", "number16": "UINT16",
-         "numbers16": "UINT16_LIST", "unsigned32": "UINT32", "signed32": "INT32", "text": "TEXT", "opaque": "OPAQUE"}
+         "numbers16": "UINT16_LIST", "unsigned32": "UINT32", "signed32": "INT32", "text": "TEXT", "opaque": "OPAQUE", "relay": "RELAY"}
 IN_WORDS = {"one address": "ADDRESS", "address list": "ADDRESS_LIST", "address pairs": "ADDRESS_PAIRS", "flag": "FLAG", "one byte": "BYTE",
             "16-bit number": "UINT16", "list of 16-bit numbers": "UINT16_LIST", "unsigned 32-bit number": "UINT32",
-            "signed 32-bit number": "INT32", "text": "TEXT", "opaque": "OPAQUE"}
+            "signed 32-bit number": "INT32", "text": "TEXT", "opaque": "OPAQUE", "relay information": "RELAY"}
 checked = 0
 wrong = []
 
@@ -63,6 +63,13 @@ def length_right(rule, n):
     return n == int(rule)
 
 
+def filled(data):
+    """Whether codes, lengths and so many bytes end where the data ends."""
+    while len(data) > 1 and data[1] + 2 <= len(data):
+        data = data[2 + data[1]:]
+    return data == b""
+
+
 def value_right(rule, kind, data):
     if rule.startswith("any"):
         return True
@@ -71,6 +78,8 @@ def value_right(rule, kind, data):
     if kind == "TEXT":
         first, last = map(int, re.match(r"each byte (\d+) to (\d+)", rule).groups())
         return all(first <= byte <= last for byte in data.rstrip(b"\0"))
+    if kind == "RELAY":
+        return rule.startswith("sub-options fill it") and filled(data)
     numbers = [int.from_bytes(data[i:i + 2], "big") for i in range(0, len(data), 2)] if kind.startswith("UINT16") else list(data)
     if kind == "UINT16_LIST":
         return all(n >= 68 for n in numbers) and numbers == sorted(numbers)
@@ -94,6 +103,8 @@ def samples(kind):
         return [first + bytes([1] * 4) + second + bytes(4) for first in (bytes(4), b"\0\0\0\1") for second in (bytes(4), b"\1\0\0\0")]
     if kind in ("TEXT", "OPAQUE"):
         return [bytes(data) for v in range(256) for data in ([v, 97], [97, v, 98], [97, v], [97, v, 0, 0])]
+    if kind == "RELAY":
+        return [bytes(data) for v in range(256) for data in ([v, 0], [0, v], [1, v, 9], [1, 1, v, v], [1, 0, v], [v, 1, 7, 2, 0])]
     return []
 
 

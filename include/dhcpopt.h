@@ -1,7 +1,7 @@
 /*
  * The options of one DHCPv4 message (RFC 2131, RFC 2132, RFC 3396): a reader and a writer, for C11 and C++17 on x86-64 Linux.
  *
- * libdhcpopt_writer.a has dhcpopt_write, dhcpopt_vendor_write and the calls on grouped sheets (dhcpopt_check_grouped, dhcpopt_choose,
+ * libdhcpopt_writer.a has dhcpopt_write, dhcpopt_vendor_write, dhcpopt_relay_write and the calls on grouped sheets (dhcpopt_check_grouped, dhcpopt_choose,
  * dhcpopt_group, dhcpopt_ungroup), libdhcpopt_index.a has dhcpopt_index_build and dhcpopt_index_lookup, and libdhcpopt_reader.a every
  * other call, so a meter that only reads links the reader's archive alone. docs/C-API.md has an example of each call.
  *
@@ -31,9 +31,10 @@
  * 3.2: dhcpopt_vendor_records and dhcpopt_vendor_write, for what is inside option 43 (RFC 2132, 8.4).
  * 3.3: dhcpopt_index_build and dhcpopt_index_lookup: an index of a message, for many lookups of one message.
  * 3.4: one sheet for all devices: dhcpopt_check_grouped, dhcpopt_choose, dhcpopt_group and dhcpopt_ungroup.
+ * 3.5: option 82 has a kind (RFC 3046), and must be the last of a sheet; dhcpopt_relay_records and dhcpopt_relay_write, for what is inside.
  */
 #define DHCPOPT_VERSION_MAJOR 3
-#define DHCPOPT_VERSION_MINOR 4
+#define DHCPOPT_VERSION_MINOR 5
 #define DHCPOPT_VERSION (100 * DHCPOPT_VERSION_MAJOR + DHCPOPT_VERSION_MINOR)
 
 #include <stddef.h>
@@ -70,6 +71,7 @@ enum dhcpopt_limit {
                                        chosen from a grouped file is never longer */
     DHCPOPT_LONGEST_ITEM = 255,     /* of data in a record that dhcpopt_vendor_write takes */
     DHCPOPT_LONGEST_VENDOR = 255,   /* that dhcpopt_vendor_write gives */
+    DHCPOPT_LONGEST_RELAY = 255,    /* that dhcpopt_relay_write gives; a sub-option has at most 255 data bytes, too */
     DHCPOPT_LONGEST_GROUPED = 4100, /* a grouped file */
     DHCPOPT_DEEPEST_GROUP = 4       /* groups within groups, the outermost counted */
 };
@@ -116,15 +118,17 @@ enum dhcpopt_kind {
     DHCPOPT_KIND_UINT32 = 8,        /* number */
     DHCPOPT_KIND_INT32 = 9,         /* number, may be negative: option 2, seconds east of UTC */
     DHCPOPT_KIND_TEXT = 10,         /* part, without the trailing zeros. Not ended by a zero; each byte is 1 to 127 */
-    DHCPOPT_KIND_OPAQUE = 11        /* part */
+    DHCPOPT_KIND_OPAQUE = 11,       /* part */
+    DHCPOPT_KIND_RELAY = 12         /* part: option 82, for dhcpopt_relay_records */
 };
 
 /*
  * Why a call is refused, and after the colon what its place then is. Reading gives 1 to 7, 10 and 11, with an
- * index also 18 and 19; writing gives 1, 2 and 7 to 16.
+ * index also 18 and 19; writing gives 1, 2, 7 to 16 and 23.
  * dhcpopt_vendor_records gives 11 and 17, dhcpopt_vendor_write 10 to 13 and 16.
+ * dhcpopt_relay_records gives 8 and 11, dhcpopt_relay_write 8, 11 to 13 and 16.
  * The calls on grouped sheets give 10, 11, 12, 16 and 20 to 22.
- * In reading 8 and 9 refuse nothing: they say why an option is broken, in a lookup's answer of DHCPOPT_STATUS_BROKEN.
+ * In reading a message 8 and 9 refuse nothing: they say why an option is broken, in a lookup's answer of DHCPOPT_STATUS_BROKEN.
  */
 enum dhcpopt_refusal {
     DHCPOPT_NOT_REFUSED = 0,
@@ -135,7 +139,7 @@ enum dhcpopt_refusal {
     DHCPOPT_REFUSED_NO_END = 5,              /* field without END: the first byte after the field */
     DHCPOPT_REFUSED_BAD_OVERLOAD = 6,        /* option 52 in file or sname, or not one byte from 1 to 3: its code byte */
     DHCPOPT_REFUSED_DUPLICATE = 7,           /* reading, a second option 52; writing, a tag met again: the later one */
-    DHCPOPT_REFUSED_BAD_LENGTH = 8,          /* the length breaks the kind: the code or tag byte */
+    DHCPOPT_REFUSED_BAD_LENGTH = 8,          /* the length breaks the kind: the code or tag byte. A sub-option runs past: its code byte; none: 0 */
     DHCPOPT_REFUSED_BAD_VALUE = 9,           /* the value breaks the kind: the code or tag byte */
     DHCPOPT_REFUSED_BAD_CODE = 10,           /* reading, asked for code 0 or 255: 0. Writing, tag 0, 52 (no item) or 255: the tag byte */
     DHCPOPT_REFUSED_NO_ROOM = 11,            /* out too small, items over 255 bytes: room. A code to copy is absent: 0. No plan fits: size */
@@ -150,7 +154,8 @@ enum dhcpopt_refusal {
     DHCPOPT_REFUSED_BAD_GROUP = 20,          /* grouped file: a group or record beyond what is around it, or a group too short for its
                                                 name: the tag byte. Empty, or a first tag other than 0: 0. Bytes behind: the first */
     DHCPOPT_REFUSED_TOO_DEEP = 21,           /* grouped file, a group of a fifth depth: the tag byte */
-    DHCPOPT_REFUSED_NO_WAY_BACK = 22         /* dhcpopt_ungroup, a name or a group inside: 0 */
+    DHCPOPT_REFUSED_NO_WAY_BACK = 22,        /* dhcpopt_ungroup, a name or a group inside: 0 */
+    DHCPOPT_REFUSED_RELAY_NOT_LAST = 23      /* tag 82 is not the last of the sheet: its byte */
 };
 
 /* Permissions to overload, and the plans that the writer may then use: the value of option 52, or 0 without it. */
@@ -204,6 +209,21 @@ typedef struct {
     size_t size;
     size_t place;
 } dhcpopt_filled;
+
+/* A sub-option of relay information, as start and length of its data in the bytes given. Absent where start is 0; one of length 0 is there. */
+typedef struct {
+    size_t start;
+    size_t length;
+} dhcpopt_id;
+
+/* What dhcpopt_relay_records gave: size bytes and the two ids, or a refusal, which names none. */
+typedef struct {
+    uint32_t refusal; /* DHCPOPT_NOT_REFUSED, or size is 0 and both ids are absent */
+    size_t size;
+    size_t place;
+    dhcpopt_id circuit; /* the first sub-option 1, circuit id */
+    dhcpopt_id remote;  /* the first sub-option 2, remote id */
+} dhcpopt_relay;
 
 /* What dhcpopt_write did: the plan used (DHCPOPT_OVERLOAD_*), or a refusal. */
 typedef struct {
@@ -277,13 +297,23 @@ dhcpopt_filled dhcpopt_records(const uint8_t *message, size_t size, uint8_t *out
 dhcpopt_filled dhcpopt_vendor_records(const uint8_t *bytes, size_t size, uint8_t *out, size_t room);
 
 /*
+ * The sub-options inside option 82, relay agent information (RFC 3046), in their order as records in out. bytes and size are those of the
+ * data, as for dhcpopt_vendor_records. A sub-option is a code, a length byte and that many data bytes; there are no pads and there is no
+ * END: 0 and 255 are codes like any other, and a code may stand more than once. The answer also names circuit id and remote id.
+ * Bytes of out after the given ones stay as they were. A refusal leaves all of out as it was.
+ * Refused by 8, a sub-option that runs past the bytes, at its code byte, its place in bytes, and at 0 where there is none at all; then by
+ * 11 at room. A room of 2 * size is always enough.
+ */
+dhcpopt_relay dhcpopt_relay_records(const uint8_t *bytes, size_t size, uint8_t *out, size_t room);
+
+/*
  * Writes a sheet of such records into a message buffer. The whole buffer, all its size bytes, is then the message.
  * A record of more than 255 data bytes is cut into pieces of 255 and a last one of 1 to 255, in order; each is whole in one field.
  * Permitted plans are tried rising, and the first that fits is used. With permission 3 it is never plan 2: where that fits, plan 1 does.
  * Written are the cookie, the options field and whichever of file and sname the plan uses, each to its last byte; the header and an
  * unused file or sname stay as they were.
  * A refusal leaves all of the buffer as it was. Refused, in this order: 1 or 2 at size; 15 at 0; 16 at sheet_size; the first faulty
- * record at its tag byte: 12, 10, 13, 7, 8, 9; then 14 at the byte of tag 3; then 11 at size.
+ * record at its tag byte: 12, 10, 13, 7, 8, 9; then 14 at the byte of tag 3; then 23 at the byte of tag 82; then 11 at size.
  * permission is one byte: C cuts a larger number to its low byte before the call, 259 to 3.
  */
 dhcpopt_wrote dhcpopt_write(const uint8_t *sheet, size_t sheet_size, uint8_t *buffer, size_t size, uint8_t permission);
@@ -296,6 +326,16 @@ dhcpopt_wrote dhcpopt_write(const uint8_t *sheet, size_t sheet_size, uint8_t *bu
  * then 11 at room, where the items take more than room or more than 255 bytes. No more room than DHCPOPT_LONGEST_VENDOR is needed.
  */
 dhcpopt_filled dhcpopt_vendor_write(const uint8_t *sheet, size_t sheet_size, uint8_t *out, size_t room);
+
+/*
+ * Writes the records of a sheet as sub-options to the front of out: what option 82 is to hold, as a record for dhcpopt_write, the last of
+ * its sheet. dhcpopt_relay_records gives the same records back.
+ * Bytes of out after the given ones stay as they were. A refusal leaves all of out as it was.
+ * Refused, in this order: 16 at sheet_size; the first faulty record at its tag byte: 12, 13 (over 255 data bytes); then 8 at 0 where there
+ * is no record; then 11 at room, where the sub-options take more than room or more than 255 bytes. No more room than
+ * DHCPOPT_LONGEST_RELAY is needed.
+ */
+dhcpopt_filled dhcpopt_relay_write(const uint8_t *sheet, size_t sheet_size, uint8_t *out, size_t room);
 
 /*
  * Builds the index of a message into count numbers, all of which it writes: for each code the place of its byte, DHCPOPT_INDEX_ABSENT or

@@ -4,7 +4,7 @@ use mathlib.Core.List.{List, [], _∷_}
 use Prim.Native.Nat.{ℕ}
 use native.Mathlib.Omega.{arith}
 use Rattle.options.specs.Message.{Field, options, file, sname, start, Opt, endToEnd}
-use Rattle.options.specs.Kinds.{Kind, address, addresses, pairs, flag, octet, number16, numbers16, unsigned32, signed32, text, opaque, broken, number, part}
+use Rattle.options.specs.Kinds.{Kind, address, addresses, pairs, flag, octet, number16, numbers16, unsigned32, signed32, text, opaque, relay, broken, number, part}
 use Rattle.options.specs.Reading.{Reading, accepted, refused, readMessage, pieces, parse}
 use Rattle.options.specs.Vendor.{Items, listed, past, itemsIn, itemRecords, vendorIn, vendorRecords}
 use Rattle.options.specs.Answers as asked
@@ -39,6 +39,7 @@ kind-told unsigned32 = told.unsigned-32-bits
 kind-told signed32 = told.signed-32-bits
 kind-told text = told.texts
 kind-told opaque = told.opaques
+kind-told relay = told.relays
 
 is-told : (a : asked.Answer) → ToldAs a (plainAnswer a)
 is-told asked.Absent = told.absent
@@ -70,6 +71,7 @@ kind-one told.unsigned-32-bits = refl
 kind-one told.signed-32-bits = refl
 kind-one told.texts = refl
 kind-one told.opaques = refl
+kind-one told.relays = refl
 
 one-way : {a : asked.Answer} {r : PlainAnswer} → ToldAs a r → r ≡ plainAnswer a
 one-way told.absent = refl

@@ -15,6 +15,8 @@ ghost use Rattle.dhcpopt_reader.specs.Plain.{AnswerByCase, ExtentByCase,
 ghost use Rattle.options.specs.Answers as answers;
 ghost use Rattle.filled.specs.Plain.{plainFilled};
 ghost use Rattle.options.specs.Vendor.{vendorRecords};
+ghost use Rattle.options.specs.Relay.{relayRecords};
+ghost use Rattle.dhcpopt_reader.specs.Relay.{plainRelay};
 use address::Cursor;
 use filled::PlainFilled;
 use lookup::Answer;
@@ -63,6 +65,23 @@ pub struct PlainAddress {
     pub given: u32,
     pub address: u32,
     pub next: usize,
+}
+
+// start: 0 where the id is absent; data never start before 2.
+#[repr(C)]
+pub struct PlainId {
+    pub start: usize,
+    pub length: usize,
+}
+
+// refusal: 0 where size bytes of records were given, and the ids are named; else its number, with its place, and no id.
+#[repr(C)]
+pub struct PlainRelay {
+    pub refusal: u32,
+    pub size: usize,
+    pub place: usize,
+    pub circuit: PlainId,
+    pub remote: PlainId,
 }
 
 // refusal: 0 where the message is accepted.
@@ -139,6 +158,7 @@ fn of_content(x: Content) -> PlainContent
         Content::Signed32(z) => of_number(9, from_signed(z)),
         Content::Text(n) => of_part(4, 10, n),
         Content::Opaque(n) => of_part(4, 11, n),
+        Content::Relay(n) => of_part(4, 12, n),
     }
 }
 
@@ -339,4 +359,27 @@ pub extern "C" fn dhcpopt_vendor_records(bytes: &[u8], out: &mut [u8]) -> PlainF
     ensures { λ r. ⌜ (r ≡ plainFilled (vendorRecords (now (bytes .entry)) (now (out .entry)) .answer)) × (now (out .exit) ≡ vendorRecords (now (bytes .entry)) (now (out .entry)) .buffer) ⌝ }
 {
     filled::plain(vendor::records(bytes, out))
+}
+
+// The sub-options of the bytes of an option 82, each as a record in the buffer out, and circuit id and remote id (document 02, request 09).
+#[no_mangle]
+pub extern "C" fn dhcpopt_relay_records(bytes: &[u8], out: &mut [u8]) -> PlainRelay
+    ensures { λ r. ⌜ (r ≡ plainRelay (relayRecords (now (bytes .entry)) (now (out .entry)))) × (now (out .exit) ≡ relayRecords (now (bytes .entry)) (now (out .entry)) .filled .buffer) ⌝ }
+{
+    let x = relay::records(bytes, out);
+    let given = x.given;
+    let g = filled::plain(given);
+    PlainRelay {
+        refusal: g.refusal,
+        size: g.size,
+        place: g.place,
+        circuit: PlainId {
+            start: x.circuit.start,
+            length: x.circuit.length,
+        },
+        remote: PlainId {
+            start: x.remote.start,
+            length: x.remote.length,
+        },
+    }
 }

@@ -3,6 +3,7 @@ ghost use mathlib.Core.Path.{_≡_};
 ghost use Rattle.options.specs.Kinds.{kinds};
 ghost use Rattle.options.specs.Writing as options;
 ghost use Rattle.options.specs.Vendor.{vendorWrite};
+ghost use Rattle.options.specs.Relay.{relayWrite};
 ghost use Rattle.options.specs.Grouped as grouped;
 ghost use Rattle.groups.specs.Check.{plainChecked};
 ghost use Rattle.filled.specs.Plain.{plainFilled};
@@ -56,6 +57,14 @@ pub extern "C" fn dhcpopt_vendor_write(s: &[u8], out: &mut [u8]) -> PlainFilled
     ensures { λ r. ⌜ (r ≡ plainFilled (vendorWrite (now (s .entry)) (now (out .entry)) .answer)) × (now (out .exit) ≡ vendorWrite (now (s .entry)) (now (out .entry)) .buffer) ⌝ }
 {
     filled::plain(vendor_writer::write(s, out))
+}
+
+// The sub-options of the records of a sheet, in the buffer out: what an option 82 is to hold (document 02, request 09).
+#[no_mangle]
+pub extern "C" fn dhcpopt_relay_write(s: &[u8], out: &mut [u8]) -> PlainFilled
+    ensures { λ r. ⌜ (r ≡ plainFilled (relayWrite (now (s .entry)) (now (out .entry)) .answer)) × (now (out .exit) ≡ relayWrite (now (s .entry)) (now (out .entry)) .buffer) ⌝ }
+{
+    filled::plain(relay_writer::write(s, out))
 }
 
 // Checks a grouped file (document 02, request 08).

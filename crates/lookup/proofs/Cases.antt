@@ -18,6 +18,7 @@ content-by-case =
       signed-32-bits = λ z. refl;
       text = λ n. refl;
       opaque = λ n. refl;
+      relay = λ n. refl;
     }
 
 pub origin-by-case : OriginByCase

@@ -37,6 +37,7 @@ pub enum Content {
     Signed32(i32),
     Text(usize),
     Opaque(usize),
+    Relay(usize),
 }
 
 // Whether an option comes in one piece, or in several, which then have so many bytes together (document 02, request 02).
@@ -86,6 +87,7 @@ fn value(k: u8, d: &[u8]) -> Content
         kinds::UNSIGNED32 => Content::Unsigned32(num::first32(d)),
         kinds::SIGNED32 => Content::Signed32(num::signed(num::first32(d))),
         kinds::TEXT => Content::Text(kinds::text_len(d)),
+        kinds::RELAY => Content::Relay(d.len()),
         _ => Content::Opaque(d.len()),
     }
 }
@@ -130,6 +132,7 @@ fn joined_value(k: u8, n: usize, d: &[u8]) -> Content
         kinds::UNSIGNED32 => Content::Unsigned32(num::first32(d)),
         kinds::SIGNED32 => Content::Signed32(num::signed(num::first32(d))),
         kinds::TEXT => Content::Text(kinds::text_len(d)),
+        kinds::RELAY => Content::Relay(n),
         _ => Content::Opaque(n),
     }
 }

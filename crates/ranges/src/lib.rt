@@ -5,8 +5,12 @@ ghost use lib.Dec.{eqb};
 ghost use Rattle.ranges.specs.Rows.{rowNumber, NumbersKeepTheRow};
 ghost use Rattle.ranges.specs.Words.{rangeRow, GivesRowOf, inRanges};
 
-// No code from 77 on has a row.
-const LAST: u8 = 76;
+// The last code of the ranges below. Of those above it one has a row: relay information (document 02, request 09).
+pub const LAST: u8 = 76;
+
+pub const RELAY: u8 = 82;
+
+const ROW_82: u8 = 12;
 
 // Eight ranges of codes, one behind the other, or fewer: the first code of each, and the number of the row that its codes have. A byte is a range, the lowest
 // byte the first; one that is not used begins at 128.
@@ -95,12 +99,23 @@ fn row_in(firsts: u64, rows: u64, c: u8) -> u8
     ((rows >> (56 - above * 8)) % 64) as u8
 }
 
+// The row of a code from 77 on: 82 alone has one.
+fn above(c: u8) -> u8
+    requires { ⌜ 77 ≤ c ⌝ }
+    ensures { λ r. ⌜ r ≡ rowNumber c ⌝ }
+{
+    if c == RELAY {
+        return ROW_82;
+    }
+    0
+}
+
 // The number of the row of the code c: that of its kind, and 16 for each row of that kind before it; 0 for none.
 pub fn row(c: u8) -> u8
     ensures { λ r. ⌜ r ≡ rowNumber c ⌝ }
 {
     if LAST < c {
-        return 0;
+        return above(c);
     }
     let r = ranges_with(c);
     row_in(r.firsts, r.rows, c)

@@ -68,6 +68,7 @@ fn told(c: Content) -> PlainContent {
         Content::Signed32(z) => number(9, from_signed(z)),
         Content::Text(n) => part(4, 10, n),
         Content::Opaque(n) => part(4, 11, n),
+        Content::Relay(n) => part(4, 12, n),
     }
 }
 

@@ -25,7 +25,7 @@ use Rattle.vendor_writer.specs.declared.Judged.{Judged}
 use Rattle.vendor_writer.specs.Judge.{judgeOf, AllBrief}
 
 -- no refusal has the number 0
-other-number : {n k p q : ℕ} → faulty k q ≡ faulty n p → (k ≡ 0 → ⊥) → n ≡ 0 → ⊥
+pub other-number : {n k p q : ℕ} → faulty k q ≡ faulty n p → (k ≡ 0 → ⊥) → n ≡ 0 → ⊥
 other-number {n} {k} e h z = let y : k ≡ n = cc in h (y ∙ z)
 
 faulty-number : (seen : List ℕ) (w : Walk) (n p : ℕ) → ruled vendorRules seen w ≡ faulty n p → n ≡ 0 → ⊥
@@ -59,7 +59,7 @@ pub record Sound (s : List ℕ) (j : Judged) : Type 0 where
   pub brief : AllBrief (recordsLeft s 0)
   pub left : Whole s 0
 
-short-brief : (rs : List Rec) → AllBrief rs → AllShort rs
+pub short-brief : (rs : List Rec) → AllBrief rs → AllShort rs
 short-brief [] b = tt
 short-brief (r ∷ rs) b = (omega (arith, b .0), short-brief rs (b .1))
 

@@ -10,6 +10,7 @@ pub mod SheetLaws
 pub mod SheetSteps
 pub mod PieceSteps
 pub mod SheetRows
+pub mod SheetOrder
 -- The return of the sheet, and demand 3
 pub mod Demand
 pub mod IndexedDemand

@@ -1,10 +1,23 @@
-"""A reader of messages of its own, written from document 01 and requests 01 to 03 and 10 of document 02 alone."""
+"""A reader of messages of its own, written from document 01 and requests 01 to 03, 09 and 10 of document 02 alone."""
 
 from typing import NamedTuple
 
 from codes import total
 
-# The kinds as document 01 lists them, without the rows that request 10 retired: name, codes, which lengths are right, which data is right.
+
+def split(data):
+    """The sub-options of an option 82 as (code, start, data), up to the first that runs past; and the place of that one, or None."""
+    at, met = 0, []
+    while at < len(data):
+        head = data[at:at + 2]
+        if len(head) < 2 or at + 2 + head[1] > len(data):
+            return met, at
+        met.append((head[0], at + 2, data[at + 2:at + 2 + head[1]]))
+        at += 2 + head[1]
+    return met, None
+
+
+# The kinds as document 01 and request 09 list them, without the rows that request 10 retired: name, codes, which lengths are right, which data is right.
 KINDS = [
     ("address", "1 16 28 32 50 54", lambda c, n: n == 4, None),
     ("addresses", "3-7 9 11 41 42 44 45 48 49 65 69-76 68", lambda c, n: n % 4 == 0 and (n > 0 or c == 68), None),
@@ -25,6 +38,7 @@ KINDS = [
     ("text", "12 14 15 17 18 40 56 64 66 67", lambda c, n: n > 0, lambda c, d: all(0 < byte < 128 for byte in d.rstrip(b"\0"))),
     ("opaque", "43 47 55 60", lambda c, n: n > 0, None),
     ("opaque", "61", lambda c, n: n > 1, None),
+    ("relay", "82", lambda c, n: n > 1, lambda c, d: split(d)[1] is None),
 ]
 
 
@@ -34,6 +48,16 @@ def row_of(code):
             first, _, last = word.partition("-")
             if int(first) <= code <= int(last or first):
                 return row
+    return None
+
+
+def fault(code, data):
+    """The number of the rule of its row that the data of a code breaks, or None: 8 for the length, 9 for the data. Sub-options that do not fill it are an 8."""
+    row = row_of(code)
+    if row and not row[2](code, len(data)):
+        return 8
+    if row and row[3] and not row[3](code, data):
+        return 8 if code == 82 else 9
     return None
 
 
@@ -120,7 +144,7 @@ def records(options):
 
 EVERY = (1 << 256) - 1  # every code known: code c at bit c
 MEMBERS = "status kind refusal field number place offset start length whole several".split()
-NAMES = "address addresses pairs flag octet number16 numbers16 unsigned32 signed32 text opaque".split()
+NAMES = "address addresses pairs flag octet number16 numbers16 unsigned32 signed32 text opaque relay".split()
 NUMBERS = {"address", "flag", "octet", "number16", "unsigned32", "signed32"}
 
 
@@ -137,11 +161,9 @@ def found(known, code, option):
     row = row_of(code) if known >> code & 1 else None
     if not row:
         return a | dict(status=1, length=len(data))
-    kind, _, right_length, right = row
-    if not right_length(code, len(data)):
-        return a | dict(status=5, refusal=8, place=first.at)
-    if right and not right(code, data):
-        return a | dict(status=5, refusal=9, place=first.at)
+    if fault(code, data):
+        return a | dict(status=5, refusal=fault(code, data), place=first.at)
+    kind = row[0]
     a["kind"] = 1 + NAMES.index(kind)
     if kind in NUMBERS:
         return a | dict(status=3, number=int.from_bytes(data, "big", signed=kind == "signed32"))
@@ -153,8 +175,8 @@ def plain(m, known, code):
         return refusal(10, 0)
     try:
         options = join(read(m))
-    except Refused as fault:
-        return refusal(*fault.args)
+    except Refused as refused:
+        return refusal(*refused.args)
     return found(known, code, options[code]) if code in options else {}
 
 

@@ -1,12 +1,13 @@
 #!/usr/bin/env python3
-"""Write every sheet of crates/sheets/stdin by document 01 and requests 02 and 03 anew and hold every line of crates/sheets/stdout to it."""
+"""Write every sheet of crates/sheets/stdin by document 01 and requests 02, 03 and 09 anew and hold every line of crates/sheets/stdout to it."""
 
 import sys
 from pathlib import Path
 
 HERE = Path(__file__).resolve().parent
 sys.path.append(str(HERE.parent))
-from reader import Refused, code_line, join, read, records, row_of
+import reader
+from reader import Refused, code_line, join, read, records
 
 OUT = HERE.parent.parent / "crates" / "sheets"
 
@@ -29,12 +30,7 @@ def fault(sheet, at, met):
         return 13
     if tag in met:
         return 7
-    row = row_of(tag)
-    if row and not row[2](tag, length):
-        return 8
-    if row and row[3] and not row[3](tag, data):
-        return 9
-    return None
+    return reader.fault(tag, data)
 
 
 def judge(sheet):
@@ -49,6 +45,8 @@ def judge(sheet):
         at += 3 + length
     if 1 in places and 3 in places and places[3] < places[1]:
         raise Refused(14, places[3])
+    if 82 in places and list(met)[-1] != 82:
+        raise Refused(23, places[82])
     return met
 
 

@@ -695,21 +695,93 @@ LONG_RECORDS = [
     ("12: 1,024, one byte missing", 3, 1472, "2B 04 00" + ramp(1023), "refused 12 0"),
 ]
 
-# The shortest right data for each code that has a row; in code order, so that 1 stands before 3.
+# --- Option 82, relay agent information (request 09) --------------------------------------------------------------------
+
+BOTH = "01 02 0A 0B 02 01 0C"  # circuit id and remote id: 7 bytes
+RELAY = record(82, BOTH)           # 10 bytes
+RELAY_2 = record(82, "01 00")      # 5 bytes
+IN_OPTIONS = option(82, BOTH)      # 9 bytes
+LONG = "09 FF" + ramp(255) + "0A 20" + ramp(32)  # 291 bytes of two sub-options
+
+RELAY_INFORMATION = [
+    # "In a settings sheet 82 must come last."
+    ("82 alone", 0, 300, RELAY, f"plan 0 | options {IN_OPTIONS}FF zeros 50 | accepted 1"),
+    ("82 last of three", 0, 300, TYPE + LEASE + RELAY, f"plan 0 | options 35 01 05 33 04 00 00 0E 10 {IN_OPTIONS}FF zeros 41 | accepted 3"),
+    ("82 of 2 bytes", 0, 300, RELAY_2, "plan 0 | options 52 02 01 00 FF zeros 55 | accepted 1"),
+    ("82 with sub-codes 0 and 255", 0, 300, record(82, "00 00 FF 01 FF"), "plan 0 | options 52 05 00 00 FF 01 FF FF zeros 52 | accepted 1"),
+    # "23 for 82 not last, at its tag, after 14"
+    ("23: 82 first of two", 0, 300, RELAY + TYPE, "refused 23 0"),
+    ("23: 82 in the middle", 0, 300, TYPE + RELAY + LEASE, "refused 23 4"),
+    ("23: one record behind, without data", 0, 300, TYPE + LEASE + RELAY + BARE, "refused 23 11"),
+    ("23: many records behind", 0, 600, RELAY_2 + "".join(record(c, "") for c in range(200, 254)), "refused 23 0"),
+    ("23: 81 and 83 may stand anywhere, 82 may not", 0, 300, record(81, "") + record(83, "") + RELAY + record(84, ""), "refused 23 6"),
+    ("81 and 83 behind nothing", 0, 300, record(83, "") + record(81, "") + RELAY, f"plan 0 | options 53 00 51 00 {IN_OPTIONS}FF zeros 46 | accepted 3"),
+    *every_permission("23, any permission", 300, RELAY + TYPE, "refused 23 0"),
+    # after 14
+    ("14 before 23", 0, 300, ROUTER + RELAY + MASK, "refused 14 0"),
+    ("14 before 23, 82 first", 0, 300, RELAY + ROUTER + MASK, "refused 14 10"),
+    ("23 where 1 and 3 are in order", 0, 300, MASK + RELAY + ROUTER, "refused 23 7"),
+    ("14, 82 last", 0, 300, ROUTER + MASK + RELAY, "refused 14 0"),
+    # behind the first faulty record
+    ("12 before 23", 0, 300, RELAY + "35 00 01", "refused 12 10"),
+    ("12 before 23: a byte behind 82 is a record cut short", 0, 300, RELAY + "35", "refused 12 10"),
+    ("10 before 23", 0, 300, RELAY + "34 00 01 01", "refused 10 10"),
+    ("13 before 23", 0, 300, RELAY + record(200, ramp(1025)), "refused 13 10"),
+    ("7 before 23: 82 again", 0, 300, RELAY + RELAY, "refused 7 10"),
+    ("7 before 23: 82 again, last", 0, 300, RELAY + TYPE + RELAY, "refused 7 14"),
+    ("8 before 23", 0, 300, RELAY + "35 00 00", "refused 8 10"),
+    ("9 before 23", 0, 300, RELAY + BROKEN, "refused 9 10"),
+    ("9 of an earlier record before 23", 0, 300, BROKEN + RELAY + TYPE, "refused 9 0"),
+    ("1 before 23", 0, 239, RELAY + TYPE, "refused 1 239"),
+    ("2 before 23", 0, 1473, RELAY + TYPE, "refused 2 1473"),
+    ("15 before 23", 4, 300, RELAY + TYPE, "refused 15 0"),
+    ("16 before 23", 0, 300, RELAY + "00" * 4087, "refused 16 4097"),
+    # before 11
+    ("23 before 11", 0, 240, RELAY + TYPE, "refused 23 0"),
+    ("23 before 11: 82 would fit, the other would not", 0, 250, RELAY + record(200, ramp(255)), "refused 23 0"),
+    ("11: 82 last, and a byte short", 0, 249, RELAY, "refused 11 249"),
+    ("82 last, just enough", 0, 250, RELAY, f"plan 0 | options {IN_OPTIONS}FF zeros 0 | accepted 1"),
+    # "8 where sub-options don't fill the data exactly or are under 2 bytes"
+    ("8: no data", 0, 300, record(82, ""), "refused 8 0"),
+    ("8: one byte", 0, 300, TYPE + record(82, "01"), "refused 8 4"),
+    ("8: a byte left over", 0, 300, TYPE + record(82, "01 00 02"), "refused 8 4"),
+    ("8: a pad left over", 0, 300, record(82, "01 00 00"), "refused 8 0"),
+    ("8: an END left over", 0, 300, record(82, "01 00 FF"), "refused 8 0"),
+    ("8: the last sub-option runs past", 0, 300, record(82, "01 02 0A"), "refused 8 0"),
+    ("8 of 82 itself, not last", 0, 300, record(82, "01") + TYPE, "refused 8 0"),
+    ("7 before 8: 82 again, broken", 0, 300, RELAY + record(82, "01"), "refused 7 10"),
+    ("12 before 8", 0, 300, "52 00 03 01 00", "refused 12 0"),
+    ("13 before 8", 0, 300, record(82, ramp(1025)), "refused 13 0"),
+    ("8 before 11", 0, 240, record(82, "01"), "refused 8 0"),
+    # A long 82 is split as any other, also within a sub-option.
+    ("82 of 291 bytes", 0, 600, TYPE + record(82, LONG), "plan 0 | options 35 01 05" + pieces(82, LONG, 255, 36) + "FF zeros 61 | accepted 3"),
+    ("82 of 1,024 bytes", 0, 1472, record(82, "09 FF" + ramp(255) + "09 FF" + ramp(255) + "09 FF" + ramp(255) + "09 FB" + ramp(251)),
+     "plan 0 | options " + pieces(82, "09 FF" + ramp(255) + "09 FF" + ramp(255) + "09 FF" + ramp(255) + "09 FB" + ramp(251), 255, 255, 255, 255, 4)
+     + "FF zeros 197 | accepted 5"),
+    ("8: 82 of 291 bytes, the last sub-option runs past", 0, 600, TYPE + record(82, "09 FF" + ramp(255) + "0A 21" + ramp(32)), "refused 8 4"),
+    # Nothing keeps 82 out of file or sname: the plans are document 01's.
+    ("82 in file", 1, 247, TYPE + RELAY, f"plan 1 | options 34 01 01 35 01 05 FF zeros 0 | file {IN_OPTIONS}FF zeros 118 | accepted 3"),
+    ("82 in sname", 2, 247, TYPE + RELAY, f"plan 2 | options 34 01 02 35 01 05 FF zeros 0 | sname {IN_OPTIONS}FF zeros 54 | accepted 3"),
+    ("82 in pieces over options and file", 1, 501, record(82, LONG),
+     "plan 1 | options 34 01 01" + option(82, "09 FF" + ramp(253)) + "FF zeros 0 | file " + option(82, "FE FF 0A 20" + ramp(32)) + "FF zeros 89 | accepted 3"),
+]
+
+# The shortest right data for each code that has a row; in code order, so that 1 stands before 3, and 82 is last.
 SHORTEST = {c: "01020304" for c in ADDRESS + ADDRESSES + UNSIGNED32 + [2]}
 SHORTEST.update({c: "01" for c in FLAG + TEXT + OPAQUE + [23, 37, 46, 53]})
 SHORTEST.update({13: "0102", 22: "0240", 26: "0044", 57: "0240", 25: "0044", 61: "0102", 68: "",
-                 21: "0102030405060708", 33: "0102030405060708"})
+                 21: "0102030405060708", 33: "0102030405060708", 82: "0900"})
 ROWS = sorted(SHORTEST)
-# Beside 52 and END the options have 1,228 bytes. Every tag but 52 has a record; the last two are for file and sname; the first three codes without a row
-# take as data what the others leave of the 1,228 bytes. Counts and places are counted here, since codes get and lose rows.
-FILLERS, IN_FILE, IN_SNAME = UNKNOWN[:3], UNKNOWN[-2], UNKNOWN[-1]
-MOST = {**SHORTEST, **{c: "" for c in UNKNOWN[:-2]}}
+# Beside 52 and END the options have 1,228 bytes. Every tag but 52 has a record; 254 is for file and 82, which is to be last, for sname; the first three codes without
+# a row take as data what the others leave of the 1,228 bytes. Counts and places are counted here, since codes get and lose rows.
+FILLERS, IN_FILE, IN_SNAME = UNKNOWN[:3], 254, 82
+MOST = {c: SHORTEST.get(c, "") for c in sorted(ROWS + UNKNOWN) if c not in (IN_FILE, IN_SNAME)}
+ONE_61, ONE_62 = "09 3B" + ramp(59), "09 3C" + ramp(60)  # a sub-option that takes so many bytes
 LEFT = 1228 - taken(MOST)
 MOST.update(zip(FILLERS, (ramp(255), ramp(255), ramp(LEFT - 510))))
 MOST_SHEET = "".join(record(c, MOST[c]) for c in sorted(MOST))
 MOST_OPTIONS = "".join(option(c, MOST[c]) for c in sorted(MOST))
-WHOLE = MOST_SHEET + record(IN_FILE, ramp(125)) + record(IN_SNAME, ramp(61))
+WHOLE = MOST_SHEET + record(IN_FILE, ramp(125)) + record(IN_SNAME, ONE_61)
 assert len(MOST) == 251 and taken(MOST) == 1228 and size(WHOLE) == 1671
 FROM_100 = [c for c in UNKNOWN if c >= 100][:47]
 ROWS_BACKWARDS = list(reversed(ROWS))
@@ -718,11 +790,12 @@ MANY = [
     *every_permission("every tag, every byte of all fields: the longest sheet that is accepted", 1472, WHOLE,
                       "refused 11 1472", "refused 11 1472", "refused 11 1472",
                       "plan 3 | options 34 01 03" + MOST_OPTIONS + "FF zeros 0 | file " + option(IN_FILE, ramp(125))
-                      + "FF zeros 0 | sname " + option(IN_SNAME, ramp(61)) + "FF zeros 0 | accepted 254"),
-    ("every tag, one byte more in sname", 3, 1472, MOST_SHEET + record(IN_FILE, ramp(125)) + record(IN_SNAME, ramp(62)), "refused 11 1472"),
-    ("every tag, one byte more in file", 3, 1472, MOST_SHEET + record(IN_FILE, ramp(126)) + record(IN_SNAME, ramp(61)), "refused 11 1472"),
+                      + "FF zeros 0 | sname " + option(IN_SNAME, ONE_61) + "FF zeros 0 | accepted 254"),
+    ("every tag, one byte more in sname", 3, 1472, MOST_SHEET + record(IN_FILE, ramp(125)) + record(IN_SNAME, ONE_62), "refused 11 1472"),
+    ("every tag, one byte more in file", 3, 1472, MOST_SHEET + record(IN_FILE, ramp(126)) + record(IN_SNAME, ONE_61), "refused 11 1472"),
     ("every tag, one byte less of options", 3, 1471, WHOLE, "refused 11 1471"),
-    ("every tag, one again at the end", 3, 1472, MOST_SHEET + record(IN_FILE, "") + record(IN_SNAME, "") + record(IN_FILE, ""), f"refused 7 {size(MOST_SHEET) + 6}"),
+    ("every tag, one again at the end", 3, 1472, MOST_SHEET + record(IN_FILE, "") + RELAY_2 + record(IN_FILE, ""), f"refused 7 {size(MOST_SHEET) + 8}"),
+    ("every tag, 82 before 254", 3, 1472, MOST_SHEET + RELAY_2 + record(IN_FILE, ""), f"refused 23 {size(MOST_SHEET)}"),
     ("every code without a row, no data", 0, 241 + 2 * len(UNKNOWN), "".join(record(c, "") for c in UNKNOWN),
      "plan 0 | options " + "".join(option(c, "") for c in UNKNOWN) + f"FF zeros 0 | accepted {len(UNKNOWN)}"),
     ("every code without a row, 4 bytes", 0, 241 + 6 * len(UNKNOWN), "".join(record(c, "00FF00FF") for c in UNKNOWN),
@@ -742,7 +815,7 @@ MANY = [
      "plan 0 | options 0C FF" + "61" * 255 + "3D FF" + ramp(255) + "19 FE" + "0044" * 127 + "FF zeros 0 | accepted 3"),
 ]
 
-# Document 01, "The kinds, by code": codes, right data, data of a wrong length (8), data of a wrong value (9).
+# Document 01, "The kinds, by code", and request 09: codes, right data, data of a wrong length (8), data of a wrong value (9).
 KINDS = [
     ("one address", ADDRESS, ["00000000", "FFFFFFFF"], ["", "01", "010203", "0102030405", "0102030405060708"], []),
     ("address list", ADDRESSES, ["01020304", "00" * 8], ["", "01", "010203", "0102030405", "010203040506"], []),
@@ -766,6 +839,7 @@ KINDS = [
     ("opaque", OPAQUE, ["00", "010203", "000000", "80FF0061"], [""], []),
     ("10: retired row", RETIRED, ["", "02", "0102", "01020304", "0102030405"], [], []),
     ("opaque of two or more", [61], ["0102", "000000", "80FF0061"], ["", "01"], []),
+    ("relay information", [82], ["0100", "00000000", "FF01FF", "01020A0B02010C"], ["", "01", "FF", "010002", "01020A", "0100FF"], []),
 ]
 
 
@@ -829,7 +903,7 @@ PLAN_2 = without_plan_2()
 
 
 def main():
-    hand = OWN_CASES + LENGTHS + PERMISSIONS + PLANS + CONTENT + FAULTS + ROUTER_FIRST + SHEETS + LONG_RECORDS + MANY + PLAN_2
+    hand = OWN_CASES + LENGTHS + PERMISSIONS + PLANS + CONTENT + FAULTS + ROUTER_FIRST + SHEETS + LONG_RECORDS + RELAY_INFORMATION + MANY + PLAN_2
     cases = hand + kind_cases()
     given, printed = b"", []
     for reason, permission, length, text, expected, *first in cases:

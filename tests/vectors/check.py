@@ -1,5 +1,5 @@
 #!/usr/bin/env python3
-"""Read crates/vectors/stdin by document 01 and requests 01 to 03 and 07 anew, and hold every line of crates/vectors/stdout to it."""
+"""Read crates/vectors/stdin by document 01 and requests 01 to 03, 07 and 09 anew, and hold every line of crates/vectors/stdout to it."""
 
 import struct
 import sys
@@ -7,7 +7,7 @@ from pathlib import Path
 
 HERE = Path(__file__).resolve().parent
 sys.path.append(str(HERE.parent))
-from reader import FIELDS, Option, Piece, Refused, join, read, records, row_of
+from reader import FIELDS, Option, Piece, Refused, fault, join, read, records, row_of
 
 OUT = HERE.parent.parent / "crates" / "vectors"
 
@@ -20,11 +20,9 @@ def content(known, code, at, data):
     row = row_of(code)
     if row is None or code not in known:
         return f"unknown {len(data)}"
-    kind, _, length_right, data_right = row
-    if not length_right(code, len(data)):
-        return f"broken 8 {at}"
-    if data_right and not data_right(code, data):
-        return f"broken 9 {at}"
+    number, kind = fault(code, data), row[0]
+    if number:
+        return f"broken {number} {at}"
     if kind in FORMAT:
         return f"{kind} {struct.unpack(FORMAT[kind], data)[0]}"
     length = len(data)
@@ -64,9 +62,9 @@ def copied(m, code, room):
 def printed(m):
     try:
         met = read(m)
-    except Refused as fault:
-        refusal = "refused {} {}".format(*fault.args)
-        present = "present 0 0 0 0 count 0 lowest 0 refusal {} {}".format(*fault.args)
+    except Refused as refused:
+        refusal = "refused {} {}".format(*refused.args)
+        present = "present 0 0 0 0 count 0 lowest 0 refusal {} {}".format(*refused.args)
         return f"{refusal}\n{present}\n{copied(m, 53, 1472)}\nrecords {filled(2048, refusal=refusal)}\n-\n"
     options = join(met)
     out = f"accepted {len(met)}\n"
@@ -96,8 +94,8 @@ def answer(m, known, code):
         return "refused 10 0"
     try:
         options = join(read(m))
-    except Refused as fault:
-        return "refused {} {}".format(*fault.args)
+    except Refused as refused:
+        return "refused {} {}".format(*refused.args)
     return look_up(known, code, options[code]) if code in options else "absent"
 
 
@@ -129,8 +127,8 @@ def head(m, count):
     """1, 2, 3, then 18 for an index not of 256 numbers."""
     try:
         read(m)
-    except Refused as fault:
-        if fault.args[0] <= 3:
+    except Refused as refused:
+        if refused.args[0] <= 3:
             raise
     if count != 256:
         raise Refused(18, count)
@@ -141,8 +139,8 @@ def built(m, index):
     try:
         head(m, len(index))
         options = join(read(m))
-    except Refused as fault:
-        return "index refused {} {}".format(*fault.args), index
+    except Refused as refused:
+        return "index refused {} {}".format(*refused.args), index
     return "index 512", [0 if c not in options else 65535 if options[c].pieces > 1 else options[c].first.at for c in range(256)]
 
 
@@ -151,8 +149,8 @@ def sought(m, index, known, code):
         return "refused 10 0"
     try:
         head(m, len(index))
-    except Refused as fault:
-        return "refused {} {}".format(*fault.args)
+    except Refused as refused:
+        return "refused {} {}".format(*refused.args)
     e = index[code]
     if e == 0:
         return "absent"
@@ -221,14 +219,19 @@ def extra():
     return "".join(line + "\n" for line in lines)
 
 
-def main():
-    given, place, messages = (OUT / "stdin").read_bytes(), 0, []
+def cases(given):
+    place, messages = 0, []
     while place < len(given):
         assert given[place:place + 6] == bytes(6)
         length = given[place + 6] * 256 + given[place + 7]
         messages.append(given[place + 8:place + 8 + length])
         place += 8 + length
     assert place == len(given)
+    return messages
+
+
+def main():
+    messages = cases((OUT / "stdin").read_bytes())
     text = (OUT / "stdout").read_text()
     expected, lines = [], []
     for line in text.splitlines():

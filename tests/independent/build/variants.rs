@@ -620,7 +620,7 @@ const VARIANTS: &[Variant] = &[
         "1 => tag_3_before_1 = tag_3,",
         "1 if tag_3.is_some() => return refuse(14, tag_3.unwrap()),",
     ),
-    variant!("14 without tag 1", "writing.rs", "match tag_3_before_1 {", "match tag_3_before_1.or(tag_3) {"),
+    variant!("14 without tag 1", "writing.rs", "= tag_3_before_1 {", "= tag_3_before_1.or(tag_3) {"),
     variant!(
         "14 at tag 1",
         "writing.rs",

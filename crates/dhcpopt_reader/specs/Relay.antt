@@ -1,10 +1,11 @@
 -- WHAT IS READ OF RELAY INFORMATION, AS PLAIN NUMBERS FOR C. Assumes nothing.
 use mathlib.Core.Path.{_≡_}
 use mathlib.Core.List.{List}
+use mathlib.Core.Logic.{_↔_}
 use Prim.Native.Nat.{ℕ}
 use Rattle.options.specs.Answers as asked
-use Rattle.options.specs.Relay.{Id, absent, named, RelayRead}
-use Rattle.filled.specs.Plain.{plainFilled}
+use Rattle.options.specs.Relay.{Id, absent, named, RelayRead, relayRecords}
+use Rattle.filled.specs.Plain.{plainFilled, Kept}
 use Rattle.dhcpopt_reader.specs.declared.PlainId.{PlainId}
 use Rattle.dhcpopt_reader.specs.declared.PlainRelay.{PlainRelay}
 
@@ -35,3 +36,12 @@ pub record RelayByCase (b : List ℕ) (n p s l t m : ℕ) : Type 0 where
 
 abbrev pub RelayIsByCase : Type 0
 RelayIsByCase = (b : List ℕ) (n p s l t m : ℕ) → RelayByCase b n p s l t m
+
+-- an id is absent exactly where its start is 0, in every answer: one of length 0 is there
+abbrev pub AbsentIffNoStart : Type 0
+AbsentIffNoStart =
+    (f old : List ℕ) → (plainRelay (relayRecords f old) .circuit .start ≡ 0 ↔ (relayRecords f old .circuit ≡ absent)) × (plainRelay (relayRecords f old) .remote .start ≡ 0 ↔ (relayRecords f old .remote ≡ absent))
+
+-- no refusal has number 0, and none changes a byte
+abbrev pub RelayKept : Type 0
+RelayKept = (f old : List ℕ) → Kept (relayRecords f old .filled) old

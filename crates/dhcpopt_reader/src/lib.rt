@@ -16,7 +16,7 @@ ghost use Rattle.options.specs.Answers as answers;
 ghost use Rattle.filled.specs.Plain.{plainFilled};
 ghost use Rattle.options.specs.Vendor.{vendorRecords};
 ghost use Rattle.options.specs.Relay.{relayRecords};
-ghost use Rattle.dhcpopt_reader.specs.Relay.{plainRelay, RelayIsByCase};
+ghost use Rattle.dhcpopt_reader.specs.Relay.{plainRelay, RelayIsByCase, AbsentIffNoStart, RelayKept};
 use address::Cursor;
 use filled::PlainFilled;
 use lookup::Answer;
@@ -96,7 +96,7 @@ pub struct PlainCodes {
 
 // Each struct has the numbers that the rules give each case; no refusal of a call that fills a buffer has number 0, and none changes a byte.
 pub fn proved()
-    ensures { λ _. ⌜ AnswerByCase × ExtentByCase × AddressByCase × CodesByCase × RecordsKept × CopyKept × VendorKept × RelayIsByCase ⌝ }
+    ensures { λ _. ⌜ AnswerByCase × ExtentByCase × AddressByCase × CodesByCase × RecordsKept × CopyKept × VendorKept × RelayIsByCase × AbsentIffNoStart × RelayKept ⌝ }
 {}
 
 pub fn from_unsigned(n: u32) -> i64

@@ -1,6 +1,6 @@
 -- What C gets of the writer, case by case; and what a refusal leaves. Assumes nothing.
 use mathlib.Core.Path.{_≡_, refl}
-use mathlib.Core.List.{List}
+use mathlib.Core.List.{List, [], _∷_}
 use Prim.Native.Nat.{ℕ}
 use native.Mathlib.Omega.{arith}
 use lib.Dec.{ltb}
@@ -10,11 +10,13 @@ use Rattle.options.specs.Writing.{optionBytes}
 use Rattle.options.specs.SheetWalk.{Sheet, sound, faulty}
 use Rattle.options.specs.Answers.{unfilled, filledWith}
 use Rattle.options.specs.Vendor.{longestVendor, sheetGiven, vendorSheet, vendorWrite}
+use Rattle.options.specs.Relay.{relayGiven, relaySheet, relayWrite}
 use Rattle.filled.specs.Plain.{Kept}
 use Rattle.filled.proofs.Kept.{declined-kept, either-kept, given-kept}
 use Rattle.vendor_writer.proofs.Outcomes.{sheet-number}
+use Rattle.relay_writer.proofs.Outcomes as relay-outcomes
 use Rattle.plan.specs.Answer.{answerOf}
-use Rattle.dhcpopt_writer.specs.Plain.{plainWrote, plainOf, WroteByCase, VendorKept}
+use Rattle.dhcpopt_writer.specs.Plain.{plainWrote, plainOf, WroteByCase, VendorKept, RelayKept}
 
 -- the answer inside says the same
 pub plain-answer : (single : ℕ) (w : options.Wrote) → plainOf (answerOf single w) ≡ plainWrote w
@@ -33,3 +35,14 @@ pub vendor-kept : VendorKept
 unfolding vendorWrite
 vendor-kept s out =
     either-kept (ltb options.longestSheet (length s)) (unfilled 16 (length s) out) (sheetGiven (vendorSheet s) out) out (declined-kept 16 (length s) out (λ z. omega arith)) (sheet-kept s out (vendorSheet s) refl)
+
+relay-sheet-kept : (s out : List ℕ) (x : Sheet) → relaySheet s ≡ x → Kept (relayGiven x out) out
+relay-sheet-kept s out (faulty n p) e = declined-kept n p out (relay-outcomes.sheet-number s n p e)
+relay-sheet-kept s out (sound []) e = declined-kept 8 0 out (λ z. omega arith)
+relay-sheet-kept s out (sound (r ∷ rs)) e =
+    either-kept (ltb longestVendor (length (optionBytes (r ∷ rs)))) (unfilled 11 (length out) out) (filledWith (optionBytes (r ∷ rs)) out) out (declined-kept 11 (length out) out (λ z. omega arith)) (given-kept (optionBytes (r ∷ rs)) out)
+
+pub relay-kept : RelayKept
+unfolding relayWrite
+relay-kept s out =
+    either-kept (ltb options.longestSheet (length s)) (unfilled 16 (length s) out) (relayGiven (relaySheet s) out) out (declined-kept 16 (length s) out (λ z. omega arith)) (relay-sheet-kept s out (relaySheet s) refl)

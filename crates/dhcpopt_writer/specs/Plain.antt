@@ -4,6 +4,7 @@ use mathlib.Core.List.{List}
 use Prim.Native.Nat.{ℕ}
 use Rattle.options.specs.Writing as options
 use Rattle.options.specs.Vendor.{vendorWrite}
+use Rattle.options.specs.Relay.{relayWrite}
 use Rattle.filled.specs.Plain.{Kept}
 use Rattle.plan.specs.declared.Choice.{Choice}
 use Rattle.plan.specs.declared.Choice.the-variants.{Plan, Refused}
@@ -28,3 +29,7 @@ WroteByCase =
 -- the writer RefusalsAreNumbered of crate plan says the first
 abbrev pub VendorKept : Type 0
 VendorKept = (s out : List ℕ) → Kept (vendorWrite s out) out
+
+-- nor of that for relay information
+abbrev pub RelayKept : Type 0
+RelayKept = (s out : List ℕ) → Kept (relayWrite s out) out

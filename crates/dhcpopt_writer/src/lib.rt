@@ -7,7 +7,7 @@ ghost use Rattle.options.specs.Relay.{relayWrite};
 ghost use Rattle.options.specs.Grouped as grouped;
 ghost use Rattle.groups.specs.Check.{plainChecked};
 ghost use Rattle.filled.specs.Plain.{plainFilled};
-ghost use Rattle.dhcpopt_writer.specs.Plain.{plainWrote, plainOf, WroteByCase, VendorKept};
+ghost use Rattle.dhcpopt_writer.specs.Plain.{plainWrote, plainOf, WroteByCase, VendorKept, RelayKept};
 ghost use Rattle.dhcpopt_writer.specs.Grouped.{ChoiceKept, MoveKept, BackKept};
 use filled::PlainFilled;
 use groups::PlainChecked;
@@ -23,7 +23,7 @@ pub struct PlainWrote {
 
 // The struct has the numbers that the rules give each case; no refusal of a call that fills a buffer has number 0, and none changes a byte.
 pub fn proved()
-    ensures { λ _. ⌜ WroteByCase × VendorKept × ChoiceKept × MoveKept × BackKept ⌝ }
+    ensures { λ _. ⌜ WroteByCase × VendorKept × RelayKept × ChoiceKept × MoveKept × BackKept ⌝ }
 {}
 
 fn of_choice(c: Choice) -> PlainWrote

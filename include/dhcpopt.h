@@ -36,9 +36,10 @@
  * The compiler now tells of an answer that is not looked at, and of a null pointer.
  * dhcpopt_list, dhcpopt_options_end and dhcpopt_index_copy, in an archive of their own.
  * 3.6: option 82 has a kind (RFC 3046), and must be the last of a sheet; dhcpopt_relay_records and dhcpopt_relay_write, for what is inside.
+ * 3.7: 8 (cookie server), 10 (impress server) and 34 (trailer encapsulation) have no kind any more: they are unknown, and written unjudged.
  */
 #define DHCPOPT_VERSION_MAJOR 3
-#define DHCPOPT_VERSION_MINOR 6
+#define DHCPOPT_VERSION_MINOR 7
 #define DHCPOPT_VERSION (100 * DHCPOPT_VERSION_MAJOR + DHCPOPT_VERSION_MINOR)
 
 #include <stddef.h>
@@ -103,9 +104,7 @@ enum dhcpopt_limit {
     X(NAME_SERVER, 5, "name server (IEN 116)")                             \
     X(DOMAIN_NAME_SERVER, 6, "domain name server")                         \
     X(LOG_SERVER, 7, "log server")                                         \
-    X(COOKIE_SERVER, 8, "cookie server")                                   \
     X(LPR_SERVER, 9, "LPR server")                                         \
-    X(IMPRESS_SERVER, 10, "Impress server")                                \
     X(RESOURCE_LOCATION_SERVER, 11, "resource location server")            \
     X(HOST_NAME, 12, "host name")                                          \
     X(BOOT_FILE_SIZE, 13, "boot file size")                                \
@@ -129,7 +128,6 @@ enum dhcpopt_limit {
     X(PERFORM_ROUTER_DISCOVERY, 31, "perform router discovery")            \
     X(ROUTER_SOLICITATION_ADDRESS, 32, "router solicitation address")      \
     X(STATIC_ROUTE, 33, "static route")                                    \
-    X(TRAILER_ENCAPSULATION, 34, "trailer encapsulation")                  \
     X(ARP_CACHE_TIMEOUT, 35, "ARP cache timeout")                          \
     X(ETHERNET_ENCAPSULATION, 36, "Ethernet encapsulation")                \
     X(TCP_DEFAULT_TTL, 37, "TCP default time to live")                     \

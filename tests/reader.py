@@ -1,4 +1,4 @@
-"""A reader of messages of its own, written from document 01 and requests 01 to 03 and 09 of document 02 alone."""
+"""A reader of messages of its own, written from document 01 and requests 01 to 03, 09 and 10 of document 02 alone."""
 
 from typing import NamedTuple
 
@@ -17,13 +17,13 @@ def split(data):
     return met, None
 
 
-# The kinds as document 01 and request 09 list them: name, codes, which lengths are right, which data is right.
+# The kinds as document 01 and request 09 list them, without the rows that request 10 retired: name, codes, which lengths are right, which data is right.
 KINDS = [
     ("address", "1 16 28 32 50 54", lambda c, n: n == 4, None),
-    ("addresses", "3-11 41 42 44 45 48 49 65 69-76 68", lambda c, n: n % 4 == 0 and (n > 0 or c == 68), None),
+    ("addresses", "3-7 9 11 41 42 44 45 48 49 65 69-76 68", lambda c, n: n % 4 == 0 and (n > 0 or c == 68), None),
     ("pairs", "21 33", lambda c, n: n % 8 == 0 and n > 0,
      lambda c, d: c == 21 or all(any(d[i:i + 4]) for i in range(0, len(d), 8))),
-    ("flag", "19 20 27 29 30 31 34 36 39", lambda c, n: n == 1, lambda c, d: d[0] < 2),
+    ("flag", "19 20 27 29 30 31 36 39", lambda c, n: n == 1, lambda c, d: d[0] < 2),
     ("octet", "23 37", lambda c, n: n == 1, lambda c, d: d[0] > 0),
     ("octet", "46", lambda c, n: n == 1, lambda c, d: d[0] in (1, 2, 4, 8)),
     ("octet", "52", lambda c, n: n == 1, lambda c, d: 0 < d[0] < 4),

@@ -7,7 +7,7 @@ from pathlib import Path
 
 HERE = Path(__file__).resolve().parent
 sys.path.append(str(HERE.parent))
-from codes import ADDRESS, ADDRESSES, FLAG, OPAQUE, TEXT, UNKNOWN, UNSIGNED32, ramp, total
+from codes import ADDRESS, ADDRESSES, FLAG, OPAQUE, RETIRED, TEXT, UNKNOWN, UNSIGNED32, ramp, total
 from reader import code_line
 
 OUT = HERE.parent.parent / "crates" / "sheets"
@@ -685,6 +685,9 @@ LONG_RECORDS = [
     ("a text of 300 bytes, 128 first", 3, 1472, record(12, "80" + "61" * 299), "refused 9 0"),
     ("61 of 256 bytes", 0, 501, record(61, ramp(256)), "plan 0 | options " + pieces(61, ramp(256), 255, 1) + "FF zeros 0 | accepted 2"),
     ("68 of 256 bytes", 0, 501, record(68, ramp(256)), "plan 0 | options " + pieces(68, ramp(256), 255, 1) + "FF zeros 0 | accepted 2"),
+    ("10: 34 of 256 bytes", 0, 501, record(34, ramp(256)), "plan 0 | options " + pieces(34, ramp(256), 255, 1) + "FF zeros 0 | accepted 2"),
+    ("10: 8 of 1,024 bytes", 0, 1275, record(8, ramp(1024)), "plan 0 | options " + pieces(8, ramp(1024), 255, 255, 255, 255, 4) + "FF zeros 0 | accepted 5"),
+    ("10: 10 of 1,025 bytes", 3, 1472, record(10, ramp(1025)), "refused 13 0"),
     ("8 at a long record behind others", 3, 1472, TYPE + LEASE + record(42, ramp(270)), "refused 8 11"),
     ("9 behind a long record", 3, 1472, record(43, ramp(300)) + BROKEN, "refused 9 303"),
     ("12 behind a long record", 3, 1472, record(43, ramp(300)) + "C8 00", "refused 12 303"),
@@ -834,6 +837,7 @@ KINDS = [
     ("signed", [2], ["00000000", "7FFFFFFF", "80000000", "FFFFFFFF"], ["", "010203", "0102030405"], []),
     ("text", TEXT, ["61", "00", "610000", "7F", "01097F1F0000"], [""], ["80", "61C862", "61800000", "610062", "0061"]),
     ("opaque", OPAQUE, ["00", "010203", "000000", "80FF0061"], [""], []),
+    ("10: retired row", RETIRED, ["", "02", "0102", "01020304", "0102030405"], [], []),
     ("opaque of two or more", [61], ["0102", "000000", "80FF0061"], ["", "01"], []),
     ("relay information", [82], ["0100", "00000000", "FF01FF", "01020A0B02010C"], ["", "01", "FF", "010002", "01020A", "0100FF"], []),
 ]

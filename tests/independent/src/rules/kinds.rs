@@ -39,12 +39,13 @@ static ROWS: [Option<Kind>; 256] = {
 };
 
 /// "Codes 62, 63 and 77 to 254 have no row." Request 09: "Give it a row".
+/// Request 10 retires 8, 10 and 34.
 const fn row(code: u8) -> Option<Kind> {
     match code {
         1 | 16 | 28 | 32 | 50 | 54 => Some(Kind::Address),
-        3..=11 | 41 | 42 | 44 | 45 | 48 | 49 | 65 | 68 | 69..=76 => Some(Kind::AddressList),
+        3..=7 | 9 | 11 | 41 | 42 | 44 | 45 | 48 | 49 | 65 | 68 | 69..=76 => Some(Kind::AddressList),
         21 | 33 => Some(Kind::AddressPairs),
-        19 | 20 | 27 | 29 | 30 | 31 | 34 | 36 | 39 => Some(Kind::Flag),
+        19 | 20 | 27 | 29 | 30 | 31 | 36 | 39 => Some(Kind::Flag),
         23 | 37 | 46 | 52 | 53 => Some(Kind::OneByte),
         13 | 22 | 26 | 57 => Some(Kind::Number16),
         25 => Some(Kind::List16),

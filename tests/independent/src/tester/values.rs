@@ -7,7 +7,7 @@ use independent::rules::kinds::{kind_of, RELAY_INFORMATION};
 
 /// The codes with a rule on their value, 52 apart.
 const JUDGED: &[u8] = &[
-    12, 14, 15, 17, 18, 19, 20, 22, 23, 25, 26, 27, 29, 30, 31, 33, 34, 36, 37, 39, 40, 46, 53, 56,
+    12, 14, 15, 17, 18, 19, 20, 22, 23, 25, 26, 27, 29, 30, 31, 33, 36, 37, 39, 40, 46, 53, 56,
     57, 64, 66, 67,
 ];
 
@@ -49,11 +49,11 @@ pub fn code(rng: &mut Rng, want: Want) -> u8 {
 
 /// A code without a row.
 pub fn rowless(rng: &mut Rng) -> u8 {
-    match rng.below(180) {
-        0 => 62,
-        1 => 63,
-        n if n + 75 == usize::from(RELAY_INFORMATION) => RELAY_INFORMATION + 1,
-        n => (n + 75) as u8,
+    loop {
+        let code = rng.between(1, 254) as u8;
+        if kind_of(code).is_none() {
+            return code;
+        }
     }
 }
 

@@ -1,7 +1,7 @@
 -- One message more: the numbers stand for the tally with it. Assumes nothing.
-use mathlib.Core.Path.{_≡_, refl, sym, ap, _∙_, subst}
+use mathlib.Core.Path.{_≡_, refl, sym, ap, ap₂, _∙_, subst}
 use mathlib.Core.List.{List, [], _∷_}
-use Prim.Native.Nat.{ℕ, zero, suc, _+_, _*_, _%_, _^_, _≤_, _<_}
+use Prim.Native.Nat.{ℕ, zero, suc, _+_, _*_, _^_, _≤_, _<_}
 use native.Mathlib.Omega.{arith}
 use native.Mathlib.Decide.{decLt}
 use lib.ListN.{length, getD, take}
@@ -9,13 +9,14 @@ use lib.Seq.{ext-getD}
 use borrow.Author.Tests.{le-ltb, lt-ltb}
 use Rattle.options.specs.Reading.{Reading, refused, readMessage}
 use Rattle.options.specs.KindClaims.{AllBytes}
-use Rattle.options.specs.Captures.{ifAccepted, ifRefusedBy, ifHolds, joinedSize, leaseTime, widened, Tally, raised, notedAs, noted, begun, closed, fed}
-use Rattle.options.specs.CaptureClaims.{NoneWraps}
-use Rattle.captures_theorems.proofs.Runs.{no-sum-wraps}
-use Rattle.tally.specs.declared.Lease.{Lease}
-use Rattle.tally.specs.Noted.{Raises, verdictCount, Notes}
+use Rattle.options.specs.Captures.{captureOf, ifAccepted, ifRefusedBy, ifHolds, joinedSize, widened, Tally, tallyOf, raised, notedAs, noted, Run, begun, closed, fed}
+use Rattle.options.specs.CaptureClaims.{NoneWraps, TallyIs}
+use Rattle.captures_theorems.proofs.Runs.{run-is-the-file, no-sum-wraps}
+use Rattle.captures_theorems.proofs.Tallies.{tally-is-correct}
+use Rattle.tally.specs.declared.Time.{Time}
+use Rattle.tally.specs.Noted.{Raises, verdictCount, Notes, Lent}
 use Rattle.captures.specs.declared.Progress.{Progress}
-use Rattle.captures.specs.Standing.{Holds, before-record, Stands, NotesKept}
+use Rattle.captures.specs.Standing.{Holds, before-record, Stands, Behind, NotesKept, Closes}
 
 raised-length : (f : ℕ → ℕ) (c : ℕ) (xs : List ℕ) → length (raised f c xs) ≡ length xs
 unfolding raised
@@ -53,25 +54,42 @@ verdicts-is w a rs ys u h r =
         let e : getD (raised (λ n. ifRefusedBy n w) 1 rs) i 0 ≡ getD rs i 0 + ifRefusedBy (suc i) w = raised-at (λ n. ifRefusedBy n w) 1 rs i (omega arith) ∙ ap (λ (k : ℕ). getD rs i 0 + ifRefusedBy k w) z in
         r .each (suc i) (omega arith) (omega (arith, e, h i)) ∙ sym e
 
--- what `close` makes
-abbrev pub closedAt : Progress → ℕ → Lease → Progress
-closedAt p n l =
-    record { began = ((p .began + 3) % 2 ^ 64 + n) % 2 ^ 64; stage = 0; high = 0; size = 0; read = 0; messages = (p .messages + 1) % 2 ^ 64; lease = l }
-
-module _ (i : ℕ) (kept : List ℕ) (x : Tally) (n : ℕ) (p : Progress) (v h b : List ℕ) (l : Lease) (v′ h′ b′ : List ℕ) where
-  holds-more : n ≡ length kept → Holds i x p v h b → Notes (readMessage kept) (p .lease) v h b l v′ h′ b′ → NoneWraps (closed i kept x)
-      → Holds (i + 3 + length kept) (noted kept x) (closedAt p n l) v′ h′ b′
+module _ (i : ℕ) (kept : List ℕ) (x : Tally) (n : ℕ) (p : Progress) (v h b : List ℕ) (t : Time) (r : Progress) (v′ h′ b′ : List ℕ) where
+  holds-more : n ≡ length kept → Holds i x p v h b → Behind p n t r → Notes (readMessage kept) v h b t v′ h′ b′ → NoneWraps (closed i kept x)
+      → Holds (i + 3 + length kept) (noted kept x) r v′ h′ b′
   unfolding notedAs
-  holds-more e s r w =
+  holds-more e s k o w =
       let place = w .place in
       let few = w .messages in
       record {
-        began-is = omega (arith, place, s .began-is);
-        messages-is = omega (arith, few, s .messages-is);
-        lease-is = r .lease-widened ∙ ap (widened (leaseTime (readMessage kept))) (s .lease-is);
-        verdicts-are = verdicts-is (readMessage kept) (x .accepts) (x .refusals) v′ (w .accepts) (w .refusals) (subst (λ (y : List ℕ). Raises (verdictCount (readMessage kept)) y v′) (s .verdicts-are) (r .verdicts-raised));
-        held-are = raised-is (λ c. ifHolds c (readMessage kept)) 1000000 (x .held) h′ (omega arith) (w .held) (subst (λ (y : List ℕ). Raises (λ c. ifHolds c (readMessage kept)) y h′) (s .held-are) (r .held-raised));
-        bytes-are = raised-is (λ c. joinedSize c (readMessage kept)) (1472 * 1000000) (x .bytes) b′ (omega arith) (w .bytes) (subst (λ (y : List ℕ). Raises (λ c. joinedSize c (readMessage kept)) y b′) (s .bytes-are) (r .bytes-raised));
+        began-is = ap (λ (y : Progress). y .began) (k .is) ∙ (omega (arith, place, s .began-is));
+        messages-is = ap (λ (y : Progress). y .messages) (k .is) ∙ (omega (arith, few, s .messages-is));
+        lease-is = k .lease-widened ∙ ap₂ widened (o .time-is) (s .lease-is);
+        verdicts-are = verdicts-is (readMessage kept) (x .accepts) (x .refusals) v′ (w .accepts) (w .refusals) (subst (λ (y : List ℕ). Raises (verdictCount (readMessage kept)) y v′) (s .verdicts-are) (o .verdicts-raised));
+        held-are = raised-is (λ c. ifHolds c (readMessage kept)) 1000000 (x .held) h′ (omega arith) (w .held) (subst (λ (y : List ℕ). Raises (λ c. ifHolds c (readMessage kept)) y h′) (s .held-are) (o .held-raised));
+        bytes-are = raised-is (λ c. joinedSize c (readMessage kept)) (1472 * 1000000) (x .bytes) b′ (omega arith) (w .bytes) (subst (λ (y : List ℕ). Raises (λ c. joinedSize c (readMessage kept)) y b′) (s .bytes-are) (o .bytes-raised));
+      }
+
+  -- the numbers are as many as are to be lent
+  lent-before : (f : List ℕ) → fed begun f ≡ closed i kept x → Holds i x p v h b → Lent v h b
+  unfolding notedAs
+  lent-before f c s =
+      let ms : List (List ℕ) = captureOf f .messages in
+      let e : noted kept x ≡ tallyOf ms = ap (λ (y : Run). y .tally) (sym c) ∙ run-is-the-file f .tally in
+      let y : TallyIs ms (tallyOf ms) = tally-is-correct ms (tallyOf ms) .0 refl in
+      record {
+        eight = ap length (s .verdicts-are) ∙ ap suc (sym (raised-length (λ n. ifRefusedBy n (readMessage kept)) 1 (x .refusals)) ∙ ap (λ (z : Tally). length (z .refusals)) e ∙ y .seven);
+        held-all = ap length (s .held-are) ∙ sym (raised-length (λ c. ifHolds c (readMessage kept)) 0 (x .held)) ∙ ap (λ (z : Tally). length (z .held)) e ∙ y .held-all;
+        bytes-all = ap length (s .bytes-are) ∙ sym (raised-length (λ c. joinedSize c (readMessage kept)) 0 (x .bytes)) ∙ ap (λ (z : Tally). length (z .bytes)) e ∙ y .bytes-all;
+      }
+
+  pub closes-as : (f message : List ℕ) → AllBytes f → fed begun f ≡ closed i kept x → n ≡ length kept → 1472 ≤ length message → Holds i x p v h b → Behind p n t r
+      → (Lent v h b → Notes (readMessage kept) v h b t v′ h′ b′) → Stands (closed i kept x) r message v′ h′ b′
+  closes-as f message a c e room s k o =
+      record {
+        holds = holds-more e s k (o (lent-before f c s)) (subst NoneWraps c (no-sum-wraps f a));
+        stage-is = before-record (ap (λ (y : Progress). y .stage) (k .is)) (ap (λ (y : Progress). y .size) (k .is)) (ap (λ (y : Progress). y .read) (k .is));
+        room = room;
       }
 
 -- a message over 1,472 bytes is refused by 2, whatever it holds
@@ -79,21 +97,15 @@ long-refused : (m : List ℕ) → 1472 < length m → readMessage m ≡ refused 
 unfolding readMessage
 long-refused m h = rw (le-ltb (length m) 240 (omega arith), lt-ltb 1472 (length m) h)
 
-module _ (n : ℕ) (p : Progress) (message v h b : List ℕ) (l : Lease) (v′ h′ b′ : List ℕ) (k : NotesKept n (p .lease) message v h b l v′ h′ b′) where
-  notes-kept : (kept : List ℕ) → n ≡ length kept → 1472 ≤ length message → (n ≤ length message → take n message ≡ kept) → Notes (readMessage kept) (p .lease) v h b l v′ h′ b′
-  notes-kept kept e room q = by (decLt (length message) n)
+module _ (n : ℕ) (p : Progress) (message v h b : List ℕ) (t : Time) (r : Progress) (v′ h′ b′ : List ℕ) (k : NotesKept n message v h b t v′ h′ b′) where
+  notes-kept : (kept : List ℕ) → n ≡ length kept → 1472 ≤ length message → (n ≤ length message → take n message ≡ kept) → Lent v h b → Notes (readMessage kept) v h b t v′ h′ b′
+  notes-kept kept e room q l = by (decLt (length message) n)
     where
-      by : Dec (length message < n) → Notes (readMessage kept) (p .lease) v h b l v′ h′ b′
-      by (yes z) = subst (λ (w : Reading). Notes w (p .lease) v h b l v′ h′ b′) (sym (long-refused kept (omega arith))) (k .if-long z (length kept))
+      by : Dec (length message < n) → Notes (readMessage kept) v h b t v′ h′ b′
+      by (yes z) = subst (λ (w : Reading). Notes w v h b t v′ h′ b′) (sym (long-refused kept (omega arith))) (k .if-long z (length kept))
       by (no z) =
           let y : n ≤ length message = omega (arith, z) in
-          subst (λ (m : List ℕ). Notes (readMessage m) (p .lease) v h b l v′ h′ b′) (q y) (k .if-kept y)
+          subst (λ (m : List ℕ). Notes (readMessage m) v h b t v′ h′ b′) (q y) (k .if-kept y .if-lent l)
 
-  pub closes : (f : List ℕ) (i : ℕ) (kept : List ℕ) (x : Tally) → AllBytes f → fed begun f ≡ closed i kept x → n ≡ length kept → 1472 ≤ length message → (n ≤ length message → take n message ≡ kept)
-      → Holds i x p v h b → Stands (closed i kept x) (closedAt p n l) message v′ h′ b′
-  closes f i kept x a c e room q s =
-      record {
-        holds = holds-more i kept x n p v h b l v′ h′ b′ e s (notes-kept kept e room q) (subst NoneWraps c (no-sum-wraps f a));
-        stage-is = before-record refl refl refl;
-        room = room;
-      }
+  pub closes : Behind p n t r → Closes n p message v h b r v′ h′ b′
+  closes o f i kept x a c e room q s = closes-as i kept x n p v h b t r v′ h′ b′ f message a c e room s o (notes-kept kept e room q)

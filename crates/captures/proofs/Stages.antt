@@ -4,14 +4,19 @@ use mathlib.Core.Bool.{Bool, true, false, cond}
 use mathlib.Core.List.{List, [], _∷_, _++_, append-assoc, append-nil}
 use Prim.Native.Nat.{ℕ, zero, suc, _+_, _-_, _*_, _≤_, _<_}
 use native.Mathlib.Omega.{arith}
-use lib.ListN.{length, take, length-append}
+use lib.ListN.{length, take, drop, length-append}
+use lib.Seq.{take-all}
 use lib.Dec.{eqb, ltb}
 use Rattle.options.specs.KindClaims.{AllBytes}
 use Rattle.options.specs.Captures.{mostMessages, Tally, Stage, atTag, atHigh, atLow, inside, stopped, Run, begun, closed, within, stepIn, step, fed}
-use Rattle.captures_theorems.proofs.Runs.{fed-append, message-run}
+use Rattle.options.specs.Reading.{readMessage}
+use Rattle.captures_theorems.proofs.Runs.{fed-append, message-run, record-run, head-run}
 use Rattle.captures_theorems.proofs.Reports.{all-append}
+use Rattle.tally.specs.declared.Time.{Time}
+use Rattle.tally.specs.Noted.{Noted}
 use Rattle.captures.specs.declared.Progress.{Progress}
-use Rattle.captures.specs.Standing.{Holds, StageIs, before-record, after-tag, after-high, in-message, was-refused, Stands, Takes, Closes, Keeps}
+use Rattle.captures.specs.Standing.{Holds, StageIs, before-record, after-tag, after-high, in-message, was-refused, Stands, Takes, Behind, Closes, Whole, Keeps}
+use Rattle.captures.proofs.Closing.{closes-as}
 
 -- ---- Which stage it is
 
@@ -176,6 +181,38 @@ module _ (run : List ℕ) (p : Progress) (message v h b message′ : List ℕ) (
       subst (λ (y : Run). Stands y p′ message′ v′ h′ b′) (sym w)
       (c (f ++ run) (fed begun f .began) (i .kept ++ run) (fed begun f .tally) (all-append f run a all) w (omega (arith, n)) (omega (arith, s .room, k .same-length))
       (λ z. ap (λ (j : ℕ). take j message′) (sym q) ∙ held-more i z) (s .holds))
+
+-- ---- A whole record
+
+pub body-of : {k : ℕ} {run : List ℕ} (w : Whole k run) → take (length run - 3) (drop 3 run) ≡ w .body
+body-of w = rw (w .is) (take-all (suc (suc (suc (length (w .body)))) - 3) (w .body) (omega arith))
+
+pub record-size : {k : ℕ} {run : List ℕ} (w : Whole k run) → length run - 3 ≡ length (w .body)
+record-size w = let z = ap length (w .is) in omega arith
+
+pub record-long : {k : ℕ} {run : List ℕ} → Whole k run → 3 ≤ length run
+record-long w = let z = ap length (w .is) in omega arith
+
+record-fed : (f run : List ℕ) (k : ℕ) (w : Whole k run) → fed begun f .stage ≡ atTag → k ≡ fed begun f .tally .messages
+    → fed begun (f ++ run) ≡ closed (fed begun f .began) (w .body) (fed begun f .tally)
+unfolding fed
+record-fed f run k w g e =
+    let i : ℕ = fed begun f .began in
+    let x : Tally = fed begun f .tally in
+    let few = w .few in
+    fed-append f run begun
+    ∙ ap₂ (λ (y : Stage) (r : List ℕ). fed (record { began = i; stage = y; tally = x }) r) g (w .is)
+    ∙ head-run i (w .high) (w .low) (w .body) x (omega arith)
+    ∙ ap (fed (within i (256 * w .high + w .low) [] x)) (sym (append-nil (w .body)))
+    ∙ record-run (256 * w .high + w .low) (w .body) [] i x (w .size)
+
+module _ (run : List ℕ) (p : Progress) (message v h b : List ℕ) (w : Whole (p .messages) run) where
+  pub takes-record : AllBytes run → p .stage ≡ 0 → p .size ≤ p .read → (n : ℕ) → n ≡ length (w .body) → (t : Time) (r : Progress) (v′ h′ b′ : List ℕ) → Behind p n t r
+      → Noted (readMessage (w .body)) v h b t v′ h′ b′ → Takes run p message v h b r message v′ h′ b′
+  takes-record all e l n q t r v′ h′ b′ k o f a s =
+      let c = record-fed f run (p .messages) w (is-tag (s .stage-is) e l) (s .holds .messages-is) in
+      subst (λ (y : Run). Stands y r message v′ h′ b′) (sym c)
+      (closes-as (fed begun f .began) (w .body) (fed begun f .tally) n p v h b t r v′ h′ b′ (f ++ run) message (all-append f run a all) c q (s .room) (s .holds) k (o .if-lent))
 
 -- ---- One run after another
 

@@ -1,13 +1,15 @@
 // A file of captures, taken part by part (document 02, request 11). The caller lends the numbers, and a buffer for one message.
 ghost use mathlib.Core.Path.{_≡_};
 ghost use mathlib.Core.Bool.{cond};
-ghost use mathlib.Core.List.{[], _∷_};
-ghost use Prim.Native.Nat.{_+_, _≤_, _<_, min};
+ghost use mathlib.Core.List.{List, [], _∷_};
+ghost use mathlib.Core.Logic.{_⊎_};
+ghost use Prim.Native.Nat.{ℕ, _+_, _≤_, _<_, min};
 ghost use lib.Dec.{eqb, ltb};
-ghost use lib.ListN.{length};
+ghost use lib.ListN.{length, take};
 ghost use Rattle.options.specs.Captures.{mostMessages};
-ghost use Rattle.captures.specs.Standing.{Begins, Takes, NotesKept, Closes, Fitting, Keeps};
+ghost use Rattle.captures.specs.Standing.{Begins, Takes, Behind, NotesKept, Closes, Whole, Fitting, Keeps};
 use tally::Lease;
+use tally::Time;
 
 // Where reading is. began: the place of the record's first byte in the file; stage: 0 before a record or in its message, 1 after its tag, 2 after its high length
 // byte, 3 where a record was refused; high: that byte; size: the length of the message that is read, and read: how many of its bytes were. Then the messages
@@ -52,37 +54,12 @@ fn in_message(p: Progress, size: usize, read: usize) -> Progress
     }
 }
 
-// Notes a message of which the buffer holds all bytes. One that is longer than the buffer was not kept: it is refused by 2, whatever it holds.
-fn note(
-    l: Lease,
-    size: usize,
-    message: &[u8],
-    verdicts: &mut [u64],
-    held: &mut [u64],
-    bytes: &mut [u64],
-) -> Lease
-    ensures { λ r. ⌜ NotesKept size l (now (message .entry)) (now (verdicts .entry)) (now (held .entry)) (now (bytes .entry)) r (now (verdicts .exit)) (now (held .exit)) (now (bytes .exit)) ⌝ }
-{
-    if message.len() < size {
-        tally::raise(verdicts, 2, 1);
-        return l;
-    }
-    tally::note(&message[..size], l, verdicts, held, bytes)
-}
-
-// Closes a message: the next record begins behind it.
-fn close(
-    p: Progress,
-    size: usize,
-    message: &[u8],
-    verdicts: &mut [u64],
-    held: &mut [u64],
-    bytes: &mut [u64],
-) -> Progress
-    ensures { λ r. ⌜ Closes size p (now (message .entry)) (now (verdicts .entry)) (now (held .entry)) (now (bytes .entry)) r (now (verdicts .exit)) (now (held .exit)) (now (bytes .exit)) ⌝ }
+// Behind a message of `size` bytes with this lease time: the next record begins there.
+fn behind(p: Progress, size: usize, t: Time) -> Progress
+    ensures { λ r. ⌜ Behind p size t r ⌝ }
 {
     let before = p.lease;
-    let lease = note(before, size, message, verdicts, held, bytes);
+    let lease = tally::widen(before, t);
     let data = std::num::wrapping_add_u64(p.began, 3);
     Progress {
         began: std::num::wrapping_add_u64(data, size as u64),
@@ -93,6 +70,38 @@ fn close(
         messages: std::num::wrapping_add_u64(p.messages, 1),
         lease,
     }
+}
+
+// Notes a message of which the buffer holds all bytes. One that is longer than the buffer was not kept: it is refused by 2, whatever it holds.
+fn note(
+    size: usize,
+    message: &[u8],
+    verdicts: &mut [u64],
+    held: &mut [u64],
+    bytes: &mut [u64],
+) -> Time
+    ensures { λ r. ⌜ NotesKept size (now (message .entry)) (now (verdicts .entry)) (now (held .entry)) (now (bytes .entry)) r (now (verdicts .exit)) (now (held .exit)) (now (bytes .exit)) ⌝ }
+{
+    if message.len() < size {
+        tally::raise(verdicts, 2, 1);
+        return tally::no_time();
+    }
+    tally::note(&message[..size], verdicts, held, bytes)
+}
+
+// Closes a message.
+fn close(
+    p: Progress,
+    size: usize,
+    message: &[u8],
+    verdicts: &mut [u64],
+    held: &mut [u64],
+    bytes: &mut [u64],
+) -> Progress
+    ensures { λ r. ⌜ Closes size p (now (message .entry)) (now (verdicts .entry)) (now (held .entry)) (now (bytes .entry)) r (now (verdicts .exit)) (now (held .exit)) (now (bytes .exit)) ⌝ }
+{
+    let t = note(size, message, verdicts, held, bytes);
+    behind(p, size, t)
 }
 
 // The stage after a tag: that of its length, or 3 for another tag or message 1,000,001.
@@ -165,6 +174,22 @@ fn take_message(
     close(p, size, message, verdicts, held, bytes)
 }
 
+// A record of which all bytes are there: its message is noted where it stands.
+fn take_record(
+    run: &[u8],
+    p: Progress,
+    verdicts: &mut [u64],
+    held: &mut [u64],
+    bytes: &mut [u64],
+) -> Progress
+    requires { ⌜ (p .stage ≡ 0) × (p .size ≤ p .read) × Whole (p .messages) (now run) ⌝ }
+    ensures { λ r. ⌜ ((message : List ℕ) → Takes (now (run .entry)) p message (now (verdicts .entry)) (now (held .entry)) (now (bytes .entry)) r message (now (verdicts .exit)) (now (held .exit)) (now (bytes .exit))) ⌝ }
+{
+    let size = run.len() - 3;
+    let t = tally::note(&run[3..], verdicts, held, bytes);
+    behind(p, size, t)
+}
+
 // Bytes of one record.
 fn take_run(
     run: &[u8],
@@ -174,11 +199,14 @@ fn take_run(
     held: &mut [u64],
     bytes: &mut [u64],
 ) -> Progress
-    requires { ⌜ Fitting p (length (now run)) ⌝ }
+    requires { ⌜ Fitting p (now run) ⌝ }
     ensures { λ r. ⌜ Takes (now (run .entry)) p (now (message .entry)) (now (verdicts .entry)) (now (held .entry)) (now (bytes .entry)) r (now (message .exit)) (now (verdicts .exit)) (now (held .exit)) (now (bytes .exit)) ⌝ }
 {
     if p.read < p.size {
         return take_message(run, p, message, verdicts, held, bytes);
+    }
+    if 1 < run.len() {
+        return take_record(run, p, verdicts, held, bytes);
     }
     head(run[0], p, message, verdicts, held, bytes)
 }
@@ -189,15 +217,36 @@ fn least(a: usize, b: usize) -> usize
     if a < b { a } else { b }
 }
 
+// The length of the record that the bytes begin with, if it is whole and may be taken; else 1.
+fn record_length(rest: &[u8], messages: u64) -> usize
+    requires { ⌜ 0 < length (now rest) ⌝ }
+    ensures { λ r. ⌜ (0 < r) × (r ≤ length (now (rest .entry))) × ((r ≡ 1) ⊎ Whole messages (take r (now (rest .entry)))) ⌝ }
+{
+    if rest.len() < 3 {
+        return 1;
+    }
+    if tag_stage(rest[0], messages) != 1 {
+        return 1;
+    }
+    let n = num::wide(rest[1]) * 256 + num::wide(rest[2]) + 3;
+    if rest.len() < n {
+        return 1;
+    }
+    n
+}
+
 // How many of the next bytes are taken at once.
-fn run_length(p: Progress, rest: usize) -> usize
-    requires { ⌜ 0 < rest ⌝ }
-    ensures { λ r. ⌜ (r ≤ rest) × Fitting p r ⌝ }
+fn run_length(p: Progress, rest: &[u8]) -> usize
+    requires { ⌜ 0 < length (now rest) ⌝ }
+    ensures { λ r. ⌜ (r ≤ length (now (rest .entry))) × Fitting p (take r (now (rest .entry))) ⌝ }
 {
     if p.read < p.size {
-        return least(p.size - p.read, rest);
+        return least(p.size - p.read, rest.len());
     }
-    1
+    if p.stage != 0 {
+        return 1;
+    }
+    record_length(rest, p.messages)
 }
 
 // Nothing was read yet. The lent numbers are to be zeros.
@@ -234,7 +283,7 @@ pub fn feed(
     let mut q = p;
     let mut i: usize = 0;
     while i < part.len() {
-        let e = i + run_length(q, part.len() - i);
+        let e = i + run_length(q, &part[i..]);
         q = take_run(&part[i..e], q, message, verdicts, held, bytes);
         i = e;
     }

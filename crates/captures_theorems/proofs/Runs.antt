@@ -29,12 +29,12 @@ message-run zero (b ∷ c ∷ m) kept rest i x e = absurd (omega arith)
 message-run (suc n) (b ∷ m) kept rest i x e =
     message-run n m (kept ++ (b ∷ [])) rest i x (omega arith) ∙ ap (λ (l : List ℕ). fed (closed i l x) rest) (append-assoc kept (b ∷ []) m)
 
-record-run : (k : ℕ) (m rest : List ℕ) (i : ℕ) (x : Tally) → length m ≡ k → fed (within i k [] x) (m ++ rest) ≡ fed (closed i m x) rest
+pub record-run : (k : ℕ) (m rest : List ℕ) (i : ℕ) (x : Tally) → length m ≡ k → fed (within i k [] x) (m ++ rest) ≡ fed (closed i m x) rest
 record-run zero [] rest i x e = refl
 record-run zero (b ∷ m) rest i x e = absurd (omega arith)
 record-run (suc k) m rest i x e = message-run k m [] rest i x e
 
-head-run : (i h l : ℕ) (ds : List ℕ) (x : Tally) → x .messages < mostMessages → fed (at i atTag x) (1 ∷ h ∷ l ∷ ds) ≡ fed (within i (256 * h + l) [] x) ds
+pub head-run : (i h l : ℕ) (ds : List ℕ) (x : Tally) → x .messages < mostMessages → fed (at i atTag x) (1 ∷ h ∷ l ∷ ds) ≡ fed (within i (256 * h + l) [] x) ds
 unfolding fed step
 head-run i h l ds x a = rw (lt-ltb (x .messages) mostMessages a)
 

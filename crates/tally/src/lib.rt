@@ -148,7 +148,8 @@ pub fn widen(l: Lease, t: Time) -> Lease
     with_time(l, t.seconds)
 }
 
-fn no_time() -> Time
+// No lease time.
+pub fn no_time() -> Time
     ensures { λ r. ⌜ r ≡ record { any = false; seconds = 0 } ⌝ }
 {
     Time {

@@ -1,8 +1,9 @@
 -- `captures::note` meets its contract. Assumes nothing.
 use borrow.Author.Needs.{needs}
 use native.Mathlib.Omega.{arith}
-use mathlib.Core.Path.{sym}
+use mathlib.Core.Path.{sym, ap}
 use lib.Seq.{length-take-le}
+use Rattle.tally.specs.Noted.{timeOf}
 use Rattle.tally.proofs.Noting.{refused-noted}
 use Rattle.captures.proofs.note.Statement.{statement}
 use Rattle.captures.proofs.note.Tie as tie
@@ -10,14 +11,16 @@ use Rattle.captures.proofs.note.Tie as tie
 raise-requires : tie.Need-raise-requires
 raise-requires c κs = search needs
 
+no-time-requires : tie.Need-no-time-requires
+no-time-requires c κs = search needs
+
 same-length : tie.Need-same-length
 same-length c = search needs
 
 returns : tie.Need-returns
 returns c =
-    let r = c .before .before in
-    let a = r .before .before .before .before .before .before .before .args in
-    record { if-kept = λ l. absurd (omega (arith, l, r .before .before .if1 .taken)); if-long = λ l p. refused-noted 2 p (a .l) _ _ _ _ (λ e. omega arith) (r .raise .ensures) }
+    let r = c .before .before .before in
+    record { if-kept = λ l. absurd (omega (arith, l, r .before .before .if1 .taken)); if-long = λ l p. refused-noted 2 p _ _ _ _ _ (ap timeOf (c .no-time .ensures)) (λ e. omega arith) (r .raise .ensures) }
 
 slice-aggregate-note : tie.Need-slice-aggregate-note
 slice-aggregate-note c = sym (length-take-le _ _ (omega (arith, c .before .if1 .left)))
@@ -44,6 +47,7 @@ note-spec =
     tie.close
     (tie.spec
     raise-requires
+    no-time-requires
     same-length
     returns
     slice-aggregate-note

@@ -1,11 +1,13 @@
 /* A month of captures (request 11 of document 02), in plain C: its tally, kept part by part, and the report of it. */
-#include "plain_kinds.h"
+#include "plain.h"
 
 #include <inttypes.h>
 #include <stdbool.h>
 #include <stdio.h>
 #include <string.h>
 
+enum { SNAME = 44, FILE_FIELD = 108, COOKIE = 236, OPTIONS = 240, LONGEST = 1472 };
+enum { PAD = 0, OVERLOAD = 52, END = 255 };
 enum { MESSAGE_TAG = 1, MOST_MESSAGES = 1000000, LEASE = 51, HEAD = 3 };
 
 /* The options of a message, noted while it is judged: they count only if it is accepted. */

@@ -9,11 +9,11 @@ use Rattle.options.specs.Message.{Opt, Holds, PiecesOf, endToEnd}
 use Rattle.options.specs.Refusals.{First}
 use Rattle.options.specs.Kinds.{Kind, number, kinds}
 use Rattle.options.specs.KindClaims.{AllBytes}
-use Rattle.options.specs.Answers.{Origin, known, everyCode, blank, newline, acceptedWord, refusedWord}
+use Rattle.options.specs.Answers.{Origin, known, everyCode}
 use Rattle.options.specs.ReadingClaims.{IsAccepted, Shows}
 use Rattle.options.specs.AnswerClaims.{DecimalRight}
 use Rattle.options.specs.Sheet.{RecordAt}
-use Rattle.options.specs.Captures.{Ending, atEnd, stoppedAt, Capture, captureOf, Lease, noLease, leases, Tally, tallyOf, Run, begun, fed, fedBy, endingOf, messagesWord, refusalsWord, codeWord, leaseWord, noneWord, report, reportSoFar}
+use Rattle.options.specs.Captures.{Ending, atEnd, stoppedAt, Capture, captureOf, Lease, noLease, leases, Tally, tallyOf, Run, begun, fed, fedBy, endingOf, report, reportSoFar}
 
 -- ---- [H1, R24] The file, by places
 
@@ -126,10 +126,32 @@ NoSumWraps = (f : List ℕ) → AllBytes f → NoneWraps (fed begun f)
 
 -- ---- [H6] The report, by its lines
 
+-- the words of the lines, in ASCII: "messages", "accepted", "refusals", "code", "lease" and "refused", each with a blank behind it; and "none"
+abbrev messages-word : List ℕ
+messages-word = 109 ∷ 101 ∷ 115 ∷ 115 ∷ 97 ∷ 103 ∷ 101 ∷ 115 ∷ 32 ∷ []
+
+abbrev accepted-word : List ℕ
+accepted-word = 97 ∷ 99 ∷ 99 ∷ 101 ∷ 112 ∷ 116 ∷ 101 ∷ 100 ∷ 32 ∷ []
+
+abbrev refusals-word : List ℕ
+refusals-word = 114 ∷ 101 ∷ 102 ∷ 117 ∷ 115 ∷ 97 ∷ 108 ∷ 115 ∷ 32 ∷ []
+
+abbrev code-word : List ℕ
+code-word = 99 ∷ 111 ∷ 100 ∷ 101 ∷ 32 ∷ []
+
+abbrev lease-word : List ℕ
+lease-word = 108 ∷ 101 ∷ 97 ∷ 115 ∷ 101 ∷ 32 ∷ []
+
+abbrev refused-word : List ℕ
+refused-word = 114 ∷ 101 ∷ 102 ∷ 117 ∷ 115 ∷ 101 ∷ 100 ∷ 32 ∷ []
+
+abbrev none-word : List ℕ
+none-word = 110 ∷ 111 ∷ 110 ∷ 101 ∷ []
+
 -- numbers in decimal, with one blank between two, and a newline at the end
 pub data Columns : List ℕ → List ℕ → Type 0 where
-  last-column : {n : ℕ} {xs : List ℕ} → DecimalRight n xs → Columns (n ∷ []) (xs ++ (newline ∷ []))
-  and-further : {n k : ℕ} {ks xs ys : List ℕ} → DecimalRight n xs → Columns (k ∷ ks) ys → Columns (n ∷ k ∷ ks) (xs ++ (blank ∷ ys))
+  last-column : {n : ℕ} {xs : List ℕ} → DecimalRight n xs → Columns (n ∷ []) (xs ++ (10 ∷ []))
+  and-further : {n k : ℕ} {ks xs ys : List ℕ} → DecimalRight n xs → Columns (k ∷ ks) ys → Columns (n ∷ k ∷ ks) (xs ++ (32 ∷ ys))
 
 -- a line: a word and its columns
 pub data LineIs (word ns : List ℕ) : List ℕ → Type 0 where
@@ -138,25 +160,25 @@ pub data LineIs (word ns : List ℕ) : List ℕ → Type 0 where
 -- "`refusals R N` for each R from 1 to 7": those from k on
 pub data RefusalsFrom (x : Tally) : ℕ → List ℕ → Type 0 where
   no-more : RefusalsFrom x 8 []
-  refused-by : {k : ℕ} {xs ys : List ℕ} → k ≤ 7 → LineIs refusalsWord (k ∷ getD (x .refusals) (k - 1) 0 ∷ []) xs → RefusalsFrom x (k + 1) ys
+  refused-by : {k : ℕ} {xs ys : List ℕ} → k ≤ 7 → LineIs refusals-word (k ∷ getD (x .refusals) (k - 1) 0 ∷ []) xs → RefusalsFrom x (k + 1) ys
       → RefusalsFrom x k (xs ++ ys)
 
 -- "`code C N B` for each code held, rising": those from c on
 pub data CodesFrom (x : Tally) : ℕ → List ℕ → Type 0 where
   no-more : CodesFrom x 256 []
-  is-held : {c : ℕ} {xs ys : List ℕ} → c < 256 → 0 < getD (x .held) c 0 → LineIs codeWord (c ∷ getD (x .held) c 0 ∷ getD (x .bytes) c 0 ∷ []) xs → CodesFrom x (c + 1) ys
+  is-held : {c : ℕ} {xs ys : List ℕ} → c < 256 → 0 < getD (x .held) c 0 → LineIs code-word (c ∷ getD (x .held) c 0 ∷ getD (x .bytes) c 0 ∷ []) xs → CodesFrom x (c + 1) ys
       → CodesFrom x c (xs ++ ys)
   not-held : {c : ℕ} {ys : List ℕ} → c < 256 → getD (x .held) c 0 ≡ 0 → CodesFrom x (c + 1) ys → CodesFrom x c ys
 
 -- "`lease S L` or `lease none`"
 pub data LeaseLineIs : Lease → List ℕ → Type 0 where
-  none-line : LeaseLineIs noLease (leaseWord ++ (noneWord ++ (newline ∷ [])))
-  from-to-line : {s l : ℕ} {xs : List ℕ} → LineIs leaseWord (s ∷ l ∷ []) xs → LeaseLineIs (leases s l) xs
+  none-line : LeaseLineIs noLease (lease-word ++ (none-word ++ (10 ∷ [])))
+  from-to-line : {s l : ℕ} {xs : List ℕ} → LineIs lease-word (s ∷ l ∷ []) xs → LeaseLineIs (leases s l) xs
 
 -- "the report up to there is printed, then `refused 24 P`"
 pub data LastLineIs : Ending → List ℕ → Type 0 where
   nothing-last : LastLineIs atEnd []
-  refused-last : {p : ℕ} {xs : List ℕ} → LineIs refusedWord (24 ∷ p ∷ []) xs → LastLineIs (stoppedAt p) xs
+  refused-last : {p : ℕ} {xs : List ℕ} → LineIs refused-word (24 ∷ p ∷ []) xs → LastLineIs (stoppedAt p) xs
 
 -- "Lines, in this order: `messages N`, `accepted N`, `refusals R N` for each R from 1 to 7, `code C N B` for each code held, rising, `lease S L` or `lease none`"
 pub record LinesAre (x : Tally) (e : Ending) (xs : List ℕ) : Type 0 where
@@ -167,8 +189,8 @@ pub record LinesAre (x : Tally) (e : Ending) (xs : List ℕ) : Type 0 where
   pub lease : List ℕ
   pub last : List ℕ
   pub reads : xs ≡ messages ++ (accepts ++ (refusals ++ (codes ++ (lease ++ last))))
-  pub messages-is : LineIs messagesWord (x .messages ∷ []) messages
-  pub accepts-is : LineIs acceptedWord (x .accepts ∷ []) accepts
+  pub messages-is : LineIs messages-word (x .messages ∷ []) messages
+  pub accepts-is : LineIs accepted-word (x .accepts ∷ []) accepts
   pub refusals-are : RefusalsFrom x 1 refusals
   pub codes-are : CodesFrom x 0 codes
   pub lease-is : LeaseLineIs (x .lease) lease

@@ -17,8 +17,8 @@ use Rattle.codeset.proofs.Words.{mark-same, mark-other}
 use Rattle.theorems.proofs.View.{clash}
 use Rattle.message.specs.Active.{activeOptions}
 use Rattle.records.specs.FieldRecords.{ActiveEnds}
-use Rattle.records.specs.Places.{Stands, leftAt}
-use Rattle.records.proofs.Places.{Goes, stands-first, left-first}
+use Rattle.records.specs.Places.{Stands, leftAt, Goes}
+use Rattle.records.proofs.Places.{stands-first, left-first, at-pad}
 use Rattle.tally.specs.Noted.{Raises, onlyAt, endMarks, CountsOptions}
 
 -- a code was met: 0 and 255 are no codes, and are marked from the start on
@@ -44,6 +44,12 @@ pub record Counting (v : ℕ) (m held₀ bytes₀ met held bytes : List ℕ) (i 
       → getD held c 0 + stillHeld met (leftAt v m i) c ≡ getD held₀ c 0 + oneIfAny (pieces c (activeOptions v m))
   pub bytes-left : (c : ℕ) → c < length bytes₀ → getD bytes₀ c 0 + size (activeOptions v m) c < 2 ^ 64
       → getD bytes c 0 + size (leftAt v m i) c ≡ getD bytes₀ c 0 + size (activeOptions v m) c
+
+-- one pad after another
+pub goes-on : {v : ℕ} {m : List ℕ} {i j : ℕ} → Goes v m i j → getD m j 0 ≡ 0 → Goes v m i (j + 1)
+goes-on {v} {m} {i} {j} g e =
+    let h = at-pad v m (g .stands) e in
+    record { stands = h .stands; same = g .same ∙ h .same; less = omega (arith, g .less, h .less) }
 
 -- ---- the beginning
 

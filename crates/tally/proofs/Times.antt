@@ -1,12 +1,12 @@
 -- The lease time of a message, by the bytes of its option 51. Assumes nothing.
-use mathlib.Core.Path.{_≡_, refl, sym, ap, _∙_}
+use mathlib.Core.Path.{_≡_, refl, sym, ap, ap₂, _∙_}
 use mathlib.Core.List.{List, [], _∷_}
 use mathlib.Core.Option.{Option, none, some}
-use Prim.Native.Nat.{ℕ, _+_, _≤_}
+use Prim.Native.Nat.{ℕ, _+_, _-_, _≤_}
 use native.Mathlib.Omega.{arith}
 use lib.IntN.{pos}
-use lib.ListN.{length, take, drop}
-use lib.Seq.{take-all}
+use lib.ListN.{length, getD, take, drop}
+use lib.Seq.{getD-take}
 use borrow.Author.Tests.{eq-eqb, ne-eqb}
 use Rattle.options.specs.Message.{Opt, endToEnd}
 use Rattle.options.specs.Reading.{accepted, readMessage, pieces}
@@ -18,7 +18,8 @@ use Rattle.message.specs.Scan.{firstStart}
 use Rattle.message.proofs.Callers.{ScanAccepted}
 use Rattle.cursor.specs.Cursor.{firstPosition}
 use Rattle.gather.specs.Joined.{joinedFrom}
-use Rattle.lookup.proofs.Laws.{least-met, whole-is, joined-is, one-met, one-copied}
+use Rattle.lookup.specs.Found.{dataAt, InPieces}
+use Rattle.lookup.proofs.Laws.{least-met, whole-is, joined-is, one-met, one-copied, in-pieces}
 
 -- 51 is a number where it has four bytes, and else broken
 value-four : (d : List ℕ) → length d ≡ 4 → kinds .value 51 d ≡ number unsigned32 (pos (first32 d))
@@ -65,9 +66,19 @@ module _ (m : List ℕ) (r : Scanned) (os : List Opt) (a : ScanAccepted 51 m r o
   one-within e h = omega (arith, e, one-met 51 m r os a (starts e) h .within)
 
   -- in several
-  pub lease-joined : r .whole ≡ 4 → leaseTime (readMessage m) ≡ some (first32 (take 4 (joinedFrom (r .over) m firstPosition 51)))
-  lease-joined e =
-      let d : List ℕ = joinedFrom (r .over) m firstPosition 51 in
-      let j : d ≡ endToEnd (pieces 51 os) = joined-is 51 m r os a in
-      let n : length d ≤ 4 = omega (arith, ap length j, whole-is 51 m r os a, e) in
-      lease-is e (take 4 d) (take-all 4 d n ∙ j)
+  pub lease-joined : r .whole ≡ 4 → leaseTime (readMessage m) ≡ some (first32 (joinedFrom (r .over) m firstPosition 51))
+  lease-joined e = lease-is e (joinedFrom (r .over) m firstPosition 51) (joined-is 51 m r os a)
+
+  pub joined-apart : r .whole ≡ 4 → (r .last + 2 ≡ r .start → ⊥) → InPieces m 51 r
+  joined-apart e h = in-pieces 51 m r os a (starts e) h
+
+-- the first four bytes are enough
+pub first-four : (d : List ℕ) → first32 (take 4 d) ≡ first32 d
+first-four d = rw (getD-take 4 d 0 0 (omega arith), getD-take 4 d 1 0 (omega arith), getD-take 4 d 2 0 (omega arith), getD-take 4 d 3 0 (omega arith)) refl
+
+-- a piece by its place, of which the data begin at s
+pub piece-is : (m : List ℕ) (s : ℕ) → 2 ≤ s → dataAt m (s - 2) ≡ take (getD m (s - 1) 0) (drop s m)
+piece-is m s h =
+    let a : s - 2 + 1 ≡ s - 1 = omega arith in
+    let b : s - 2 + 2 ≡ s = omega arith in
+    ap₂ (λ (j k : ℕ). take (getD m j 0) (drop k m)) a b

@@ -1,9 +1,10 @@
 // The tally of messages (document 02, request 11): what one message more adds to it. The caller lends the numbers.
 ghost use mathlib.Core.Path.{_≡_};
 ghost use mathlib.Core.Bool.{true, false};
+ghost use mathlib.Core.List.{_++_};
 ghost use mathlib.Core.Option.{some};
 ghost use Prim.Native.Nat.{_+_, _<_, min, max};
-ghost use lib.ListN.{take};
+ghost use lib.ListN.{getD, take};
 ghost use Rattle.options.specs.Reading.{readMessage};
 ghost use Rattle.options.specs.CodeSet.{marked, withMark};
 ghost use Rattle.options.specs.Kinds.{first32};
@@ -12,7 +13,9 @@ ghost use Rattle.message.specs.Active.{activeOptions};
 ghost use Rattle.message.specs.Scan.{scanOf};
 ghost use Rattle.cursor.specs.Cursor.{firstPosition};
 ghost use Rattle.gather.specs.Joined.{joinedFrom};
+ghost use Rattle.lookup.specs.Found.{InPieces};
 ghost use Rattle.records.specs.FieldRecords.{ActiveEnds};
+ghost use Rattle.records.specs.Places.{Stands, Goes};
 ghost use Rattle.tally.specs.Noted.{leaseOf, timeOf, Raises, onlyAt, endMarks, CountsOptions, Noted};
 use message::Scanned;
 
@@ -76,6 +79,18 @@ fn count_further(code: u8, n: usize, bytes: &mut [u64])
     raise(bytes, num::wide(code), n as u64);
 }
 
+// The first place behind pads.
+fn past_pads(m: &[u8], over: u32, from: usize) -> usize
+    requires { ⌜ Stands over (now m) from × (getD (now m) from 0 ≡ 0) ⌝ }
+    ensures { λ r. ⌜ Goes over (now (m .entry)) from r ⌝ }
+{
+    let mut i = from + 1;
+    while m[i] == 0 {
+        i = i + 1;
+    }
+    i
+}
+
 // Counts the options of an accepted message; `over` is the value of its option 52 (0: it has none). Nothing is tested that the walk which judged the message has
 // tested.
 fn count_options(m: &[u8], over: u32, held: &mut [u64], bytes: &mut [u64])
@@ -98,7 +113,7 @@ fn count_options(m: &[u8], over: u32, held: &mut [u64], bytes: &mut [u64])
                 }
             } else {
                 if c == 0 {
-                    i = i + 1;
+                    i = past_pads(m, over, i);
                 } else {
                     let n = num::wide(m[i + 1]);
                     count_further(c, n, bytes);
@@ -164,13 +179,38 @@ fn time_is(seconds: u32) -> Time
     Time { any: true, seconds }
 }
 
-// The number that the pieces of option 51 begin with.
-fn joined_time(m: &[u8], over: u32) -> u32
+// The number of two parts end to end.
+fn both_time(a: &[u8], b: &[u8]) -> u32
+    ensures { λ r. ⌜ r ≡ first32 (now (a .entry) ++ now (b .entry)) ⌝ }
+{
+    num::be32(
+        lookup::byte_of_both(a, b, 0),
+        lookup::byte_of_both(a, b, 1),
+        lookup::byte_of_both(a, b, 2),
+        lookup::byte_of_both(a, b, 3),
+    )
+}
+
+// The number that the pieces of option 51 begin with, gathered.
+fn gathered_time(m: &[u8], over: u32) -> u32
     ensures { λ r. ⌜ r ≡ first32 (take 4 (joinedFrom over (now (m .entry)) firstPosition 51)) ⌝ }
 {
     let mut head = [0u8; 4];
     let h = gather::gather(m, over, cursor::first(), 51, &mut head, 0);
     num::first32(&head[..h])
+}
+
+// The same, where there are several: two are read where they stand, as in a lookup.
+fn joined_time(m: &[u8], w: Scanned) -> u32
+    requires { ⌜ InPieces (now m) 51 w ⌝ }
+    ensures { λ r. ⌜ r ≡ first32 (joinedFrom (w .over) (now (m .entry)) firstPosition 51) ⌝ }
+{
+    let first = message::part(m, w.start, num::wide(m[w.start - 1]));
+    let last = message::part(m, w.last + 2, num::wide(m[w.last + 1]));
+    if first.len() + last.len() == w.whole {
+        return both_time(first, last);
+    }
+    gathered_time(m, w.over)
 }
 
 // The lease time of an accepted message, of which w tells where option 51 stands: it is well-formed where its pieces have four bytes together.
@@ -183,7 +223,7 @@ fn time_in(m: &[u8], w: Scanned) -> Time
     }
     let start = w.start;
     if w.last + 2 != start {
-        return time_is(joined_time(m, w.over));
+        return time_is(joined_time(m, w));
     }
     let end = start + 4;
     time_is(num::first32(&m[start..end]))

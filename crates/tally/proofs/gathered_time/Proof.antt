@@ -1,4 +1,4 @@
--- `tally::joined_time` meets its contract. Assumes nothing.
+-- `tally::gathered_time` meets its contract. Assumes nothing.
 use borrow.Author.Needs.{needs}
 use mathlib.Core.Path.{sym, ap, _∙_}
 use mathlib.Core.List.{List}
@@ -8,8 +8,8 @@ use Rattle.options.specs.Kinds.{first32}
 use Rattle.cursor.specs.Cursor.{firstPosition}
 use Rattle.gather.specs.Joined.{joinedFrom}
 use Rattle.lookup.proofs.Laws.{Front, gathered}
-use Rattle.tally.proofs.joined_time.Statement.{statement}
-use Rattle.tally.proofs.joined_time.Tie as tie
+use Rattle.tally.proofs.gathered_time.Statement.{statement}
+use Rattle.tally.proofs.gathered_time.Tie as tie
 
 -- what the buffer begins with
 front : (g : tie.After-gather) → let s = g .before .before .before .before in
@@ -37,8 +37,8 @@ first32-requires c κs = search needs
 returns : tie.Need-returns
 returns c = c .first32 .ensures ∙ ap first32 (front (c .before .before .before) .front)
 
-pub joined-time-spec : {M : Type 1} → statement M
-joined-time-spec =
+pub gathered-time-spec : {M : Type 1} → statement M
+gathered-time-spec =
     tie.close
     (tie.spec
     first-requires

@@ -5,5 +5,4 @@ ghost use Rattle.options.specs.CaptureCases.{CaptureCasesHold};
 // What crate options states on captures holds.
 pub fn proved()
     ensures { λ _. ⌜ CaptureIsCorrect × (TallyIsCorrect × (SumIsMessages × (HoweverFilled × (FedByParts × (NoSumWraps × (ReportIsCorrect × (PrintsTheReport × CaptureCasesHold))))))) ⌝ }
-{
-}
+{}

@@ -19,7 +19,7 @@ use Rattle.message.specs.Active.{activeOptions}
 use Rattle.records.specs.FieldRecords.{ActiveEnds}
 use Rattle.records.specs.Places.{Stands, leftAt, Goes}
 use Rattle.records.proofs.Places.{stands-first, left-first, at-pad}
-use Rattle.tally.specs.Noted.{Raises, onlyAt, endMarks, CountsOptions}
+use Rattle.tally.specs.Noted.{Raises, onlyAt, endMarks, Reaches, CountsOptions}
 
 -- a code was met: 0 and 255 are no codes, and are marked from the start on
 abbrev taken : List ℕ → ℕ → Bool
@@ -45,11 +45,16 @@ pub record Counting (v : ℕ) (m held₀ bytes₀ met held bytes : List ℕ) (i 
   pub bytes-left : (c : ℕ) → c < length bytes₀ → getD bytes₀ c 0 + size (activeOptions v m) c < 2 ^ 64
       → getD bytes c 0 + size (leftAt v m i) c ≡ getD bytes₀ c 0 + size (activeOptions v m) c
 
--- one pad after another
-pub goes-on : {v : ℕ} {m : List ℕ} {i j : ℕ} → Goes v m i j → getD m j 0 ≡ 0 → Goes v m i (j + 1)
-goes-on {v} {m} {i} {j} g e =
-    let h = at-pad v m (g .stands) e in
-    record { stands = h .stands; same = g .same ∙ h .same; less = omega (arith, g .less, h .less) }
+-- ---- pads
+
+pub reaches-first : {v : ℕ} {m : List ℕ} {i : ℕ} → Stands v m i → Reaches v m i i
+reaches-first y = record { stands = y; same = refl; most = omega arith }
+
+pub reaches-on : {v : ℕ} {m : List ℕ} {i j : ℕ} → Reaches v m i j → getD m j 0 ≡ 0 → Reaches v m i (j + 1)
+reaches-on {v} {m} g e = let h = at-pad v m (g .stands) e in record { stands = h .stands; same = g .same ∙ h .same; most = omega (arith, g .most, h .less) }
+
+pub goes-reach : {v : ℕ} {m : List ℕ} {i j k : ℕ} → Goes v m i j → Reaches v m j k → Goes v m i k
+goes-reach g h = record { stands = h .stands; same = g .same ∙ h .same; less = omega (arith, g .less, h .most) }
 
 -- ---- the beginning
 

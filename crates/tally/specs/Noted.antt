@@ -3,12 +3,13 @@ use mathlib.Core.Path.{_≡_}
 use mathlib.Core.Bool.{Bool, cond}
 use mathlib.Core.List.{List, [], _∷_}
 use mathlib.Core.Option.{Option, none, some}
-use Prim.Native.Nat.{ℕ, zero, suc, _+_, _^_, _<_}
+use Prim.Native.Nat.{ℕ, zero, suc, _+_, _^_, _≤_, _<_}
 use lib.Dec.{eqb}
 use lib.ListN.{length, getD}
 use Rattle.options.specs.Message.{Opt, endToEnd}
 use Rattle.options.specs.Reading.{Reading, pieces}
 use Rattle.options.specs.Captures.{ifAccepted, ifRefusedBy, oneIfAny, ifHolds, joinedSize, leaseTime, Lease, noLease, leases}
+use Rattle.records.specs.Places.{Stands, leftAt, bytesLeft}
 use Rattle.tally.specs.declared.Lease as coded
 use Rattle.tally.specs.declared.Time.{Time}
 
@@ -57,6 +58,12 @@ onlyAt k n i = cond (eqb i k) n 0
 -- the set of 0 and 255, which are no codes
 abbrev pub endMarks : List ℕ
 endMarks = 1 ∷ 0 ∷ 0 ∷ 9223372036854775808 ∷ []
+
+-- the walk over an accepted message comes from the place i to j, or stays, and passes no option between
+pub record Reaches (v : ℕ) (m : List ℕ) (i j : ℕ) : Type 0 where
+  pub stands : Stands v m j
+  pub same : leftAt v m i ≡ leftAt v m j
+  pub most : bytesLeft m j ≤ bytesLeft m i
 
 -- by code, the messages that hold it, and the bytes of its pieces: of a message with these options
 pub record CountsOptions (os : List Opt) (held held′ bytes bytes′ : List ℕ) : Type 0 where

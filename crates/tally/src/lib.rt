@@ -4,7 +4,7 @@ ghost use mathlib.Core.Bool.{true, false};
 ghost use mathlib.Core.List.{_++_};
 ghost use mathlib.Core.Option.{some};
 ghost use Prim.Native.Nat.{_+_, _<_, min, max};
-ghost use lib.ListN.{getD, take};
+ghost use lib.ListN.{take};
 ghost use Rattle.options.specs.Reading.{readMessage};
 ghost use Rattle.options.specs.CodeSet.{marked, withMark};
 ghost use Rattle.options.specs.Kinds.{first32};
@@ -15,8 +15,8 @@ ghost use Rattle.cursor.specs.Cursor.{firstPosition};
 ghost use Rattle.gather.specs.Joined.{joinedFrom};
 ghost use Rattle.lookup.specs.Found.{InPieces};
 ghost use Rattle.records.specs.FieldRecords.{ActiveEnds};
-ghost use Rattle.records.specs.Places.{Stands, Goes};
-ghost use Rattle.tally.specs.Noted.{leaseOf, timeOf, Raises, onlyAt, endMarks, CountsOptions, Noted};
+ghost use Rattle.records.specs.Places.{Stands};
+ghost use Rattle.tally.specs.Noted.{leaseOf, timeOf, Raises, onlyAt, endMarks, Reaches, CountsOptions, Noted};
 use message::Scanned;
 
 // The smallest and the largest lease time, if there is any.
@@ -79,12 +79,12 @@ fn count_further(code: u8, n: usize, bytes: &mut [u64])
     raise(bytes, num::wide(code), n as u64);
 }
 
-// The first place behind pads.
+// The first place from a place on where no pad stands.
 fn past_pads(m: &[u8], over: u32, from: usize) -> usize
-    requires { ⌜ Stands over (now m) from × (getD (now m) from 0 ≡ 0) ⌝ }
-    ensures { λ r. ⌜ Goes over (now (m .entry)) from r ⌝ }
+    requires { ⌜ Stands over (now m) from ⌝ }
+    ensures { λ r. ⌜ Reaches over (now (m .entry)) from r ⌝ }
 {
-    let mut i = from + 1;
+    let mut i = from;
     while m[i] == 0 {
         i = i + 1;
     }
@@ -113,7 +113,7 @@ fn count_options(m: &[u8], over: u32, held: &mut [u64], bytes: &mut [u64])
                 }
             } else {
                 if c == 0 {
-                    i = past_pads(m, over, i);
+                    i = past_pads(m, over, i + 1);
                 } else {
                     let n = num::wide(m[i + 1]);
                     count_further(c, n, bytes);

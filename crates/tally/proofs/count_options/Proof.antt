@@ -8,8 +8,8 @@ use Prim.Native.Nat.{_+_, _≤_}
 use lib.ListN.{length, getD}
 use Rattle.options.specs.CodeSet.{marked}
 use Rattle.records.specs.Places.{Goes, bytesLeft}
-use Rattle.records.proofs.Places.{stands-in, option-in, option-stands, optionAt, option-left, option-less, option-size, end-none, end-next}
-use Rattle.tally.proofs.Counting.{Counting, counting-begins, no-pad, no-end, counting-goes, counting-first, counting-further, counting-ends}
+use Rattle.records.proofs.Places.{stands-in, at-pad, option-in, option-stands, optionAt, option-left, option-less, option-size, end-none, end-next}
+use Rattle.tally.proofs.Counting.{Counting, counting-begins, no-pad, no-end, goes-reach, counting-goes, counting-first, counting-further, counting-ends}
 use Rattle.tally.proofs.count_options.Statement.{statement}
 use Rattle.tally.proofs.count_options.Tie as tie
 
@@ -55,6 +55,14 @@ next-field c =
     let l = c .before .before .before .before .before .before .before in
     let s = l .before .before .before .before .before in
     end-next (s .args .over) (s .args .m .now) (l .loop .inv .stands) (n .before .if2 .taken) (n .next-place .result) (n .next-place .ensures) (s .pre) (c .if3 .left)
+
+pad : (c : tie.Then4 Inv-loop μ-loop) → let l = c .before .before .before .before .before .before in
+    let a = l .before .before .before .before .before .args in
+    Goes (a .over) (a .m .now) (l .loop .i) (l .loop .i + 1)
+pad c =
+    let l = c .before .before .before .before .before .before in
+    let a = l .before .before .before .before .before .args in
+    at-pad (a .over) (a .m .now) (l .loop .inv .stands) (c .if4 .taken)
 
 end-marks-requires : tie.Need-end-marks-requires Inv-loop μ-loop
 end-marks-requires c κs = search needs
@@ -141,14 +149,20 @@ loop-less-2 c = next-field c .less
 loop-again-2 : tie.Need-loop-again-2 Inv-loop μ-loop
 loop-again-2 c = counting-goes (c .before .before .before .before .before .before .before .loop .inv) (next-field c)
 
+add-past-pads : tie.Need-add-past-pads Inv-loop μ-loop
+add-past-pads c =
+    let l = c .before .before .before .before .before .before in
+    let a = l .before .before .before .before .before .args in
+    omega (arith, stands-in (a .over) (a .m .now) (l .loop .inv .stands))
+
 past-pads-requires : tie.Need-past-pads-requires Inv-loop μ-loop
-past-pads-requires c κs = (c .before .before .before .before .before .before .loop .inv .stands, c .if4 .taken)
+past-pads-requires c κs = pad c .stands
 
 loop-less-3 : tie.Need-loop-less-3 Inv-loop μ-loop
-loop-less-3 c = c .past-pads .ensures .less
+loop-less-3 c = goes-reach (pad (c .before)) (c .past-pads .ensures) .less
 
 loop-again-3 : tie.Need-loop-again-3 Inv-loop μ-loop
-loop-again-3 c = counting-goes (c .before .before .before .before .before .before .before .loop .inv) (c .past-pads .ensures)
+loop-again-3 c = counting-goes (c .before .before .before .before .before .before .before .loop .inv) (goes-reach (pad (c .before)) (c .past-pads .ensures))
 
 add-wide-2 : tie.Need-add-wide-2 Inv-loop μ-loop
 add-wide-2 c = omega (arith, further-within c)
@@ -220,6 +234,7 @@ count-options-spec =
     returns
     loop-less-2
     loop-again-2
+    add-past-pads
     past-pads-requires
     loop-less-3
     loop-again-3

@@ -5,6 +5,8 @@
  *                            others; an index of the same bytes must give the answers of the plain lookup
  * compare grouped FILE...    checks each grouped file, chooses from it and takes it back with both: cut off anywhere, any byte changed; its
  *                            bytes moved as a sheet
+ * compare captures FILE...   takes a file of three records of the message, of which any byte is changed, with both, cut into two parts: the
+ *                            numbers and the reports
  * compare sheets FILE...     writes each sheet with both: every buffer size, every permission, cut off anywhere, any byte changed
  * compare relay FILE...      the same as sub-options
  * compare vendor FILE...     reads each as items with both, and writes it as records of items: every room, cut off anywhere, any byte changed
@@ -308,10 +310,57 @@ static void compare_file(const char *name)
     }
 }
 
+/* The tally of the first n bytes of a file, of which the first part has so many. */
+static void compare_tally(const char *name, const uint8_t *file, size_t n, size_t first)
+{
+    static uint64_t v[2][8], h[2][256], b[2][256];
+    static uint8_t kept[2][1472], text[2][16384];
+    memset(v, 0, sizeof v);
+    memset(h, 0, sizeof h);
+    memset(b, 0, sizeof b);
+    plain_captures p = plain_captures_begin();
+    p = plain_captures_feed(p, file, first, kept[0], v[0], h[0], b[0]);
+    p = plain_captures_feed(p, file + first, n - first, kept[0], v[0], h[0], b[0]);
+    dhcpopt_captures l = dhcpopt_captures_begin(v[1], h[1], b[1]);
+    l = dhcpopt_captures_feed(file, first, l, kept[1], v[1], h[1], b[1]);
+    l = dhcpopt_captures_feed(file + first, n - first, l, kept[1], v[1], h[1], b[1]);
+    if (memcmp(v[0], v[1], sizeof v[0]) != 0 || memcmp(h[0], h[1], sizeof h[0]) != 0 || memcmp(b[0], b[1], sizeof b[0]) != 0)
+        fail("captures: other numbers", name);
+    size_t size_p = plain_captures_report(p, v[0], h[0], b[0], (char *)text[0]);
+    size_t size_l = dhcpopt_captures_report(l, v[1], h[1], b[1], text[1]);
+    if (size_p != size_l || memcmp(text[0], text[1], size_p) != 0)
+        fail("captures: another report", name);
+}
+
+static void compare_captures(const char *name)
+{
+    static uint8_t file[3 * (LONGEST + 3)];
+    size_t n = 0;
+    for (int k = 0; k < 3; k++) {
+        file[n++] = 1;
+        file[n++] = (uint8_t)(size >> 8);
+        file[n++] = (uint8_t)size;
+        memcpy(file + n, in, size);
+        n += size;
+    }
+    for (size_t i = 0; i <= n; i++) {
+        compare_tally(name, file, n, i);
+        compare_tally(name, file, i, i / 2);
+    }
+    for (size_t i = 0; i < n; i++) {
+        uint8_t was = file[i];
+        for (int k = 0; k < 18; k++) {
+            file[i] = (uint8_t)(k < 9 ? was + k : k * 29);
+            compare_tally(name, file, n, n - i);
+        }
+        file[i] = was;
+    }
+}
+
 int main(int argc, char **argv)
 {
     if (argc < 3)
-        fail("usage", "compare messages|index|sheets|vendor|relay|grouped FILE...");
+        fail("usage", "compare messages|index|sheets|vendor|relay|grouped|captures FILE...");
     for (int i = 2; i < argc; i++) {
         memset(in, 0, sizeof in);
         size = take(argv[i], in, sizeof in);
@@ -325,6 +374,8 @@ int main(int argc, char **argv)
             compare_inside(argv[i], compare_sub_options);
         else if (strcmp(argv[1], "grouped") == 0)
             compare_file(argv[i]);
+        else if (strcmp(argv[1], "captures") == 0)
+            compare_captures(argv[i]);
         else {
             compare_message(argv[i]);
             compare_changed(argv[i]);

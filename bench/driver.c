@@ -2,7 +2,7 @@
  * driver plain|rust|library CALL FILE [NUMBER...]   makes one call, for `run` to count
  * driver time CALL FILE [NUMBER...]                 prints the nanoseconds of a call: plain C's, plain Rust's and the library's
  *
- * FILE is a message, the sheet to write or to group, for vendor_records and relay_records the data of an option 43 or 82, or a grouped file, from which is chosen for
+ * FILE is a message (for captures_feed one that fills a part of 64 KiB, again and again), the sheet to write or to group, for vendor_records and relay_records the data of an option 43 or 82, or a grouped file, from which is chosen for
  * the class "meter".
  * The numbers: the code for lookup, data, copy and index_lookup; the buffer's size and the permission for write.
  * The library's side is left out unless LIBRARY is defined, Rust's unless RUST is.
@@ -23,6 +23,12 @@ static uint8_t in[ROOM], out[ROOM];
 static size_t size, room;
 static uint8_t code, permission;
 static uint16_t numbers[256];
+
+/* A part of a file of captures: records of the one message, and where the tally is kept. */
+enum { PART = 65536 };
+static uint8_t part[PART], kept[1472];
+static size_t part_size;
+static uint64_t verdicts[8], held[256], held_bytes[256];
 
 /* The codes that a service asks for: ten that an offer has, and twenty more. */
 static const uint8_t thirty[] = {1,  2,  3,  4,  6,  7,  12, 13, 15, 16, 17, 23, 26, 28, 33,
@@ -58,6 +64,10 @@ static bool vendor_records_plain(void) { return plain_vendor_records(in, size, o
 static bool vendor_write_plain(void) { return plain_vendor_write(in, size, out, ROOM).refusal == 0; }
 static bool relay_records_plain(void) { return plain_relay_records(in, size, out, ROOM).refusal == 0; }
 static bool relay_write_plain(void) { return plain_relay_write(in, size, out, ROOM).refusal == 0; }
+static bool captures_feed_plain(void)
+{
+    return plain_captures_feed(plain_captures_begin(), part, part_size, kept, verdicts, held, held_bytes).messages != 0;
+}
 
 #ifdef LIBRARY
 #define LIBRARY_SIDE(call) call##_library
@@ -88,6 +98,11 @@ static bool vendor_records_library(void) { return dhcpopt_vendor_records(in, siz
 static bool vendor_write_library(void) { return dhcpopt_vendor_write(in, size, out, ROOM).refusal == 0; }
 static bool relay_records_library(void) { return dhcpopt_relay_records(in, size, out, ROOM).refusal == 0; }
 static bool relay_write_library(void) { return dhcpopt_relay_write(in, size, out, ROOM).refusal == 0; }
+static bool captures_feed_library(void)
+{
+    static const dhcpopt_captures begun;
+    return dhcpopt_captures_feed(part, part_size, begun, kept, verdicts, held, held_bytes).messages != 0;
+}
 #else
 #define LIBRARY_SIDE(call) NULL
 #endif
@@ -111,6 +126,20 @@ dhcpopt_filled independent_vendor_records(const uint8_t *bytes, size_t n, uint8_
 dhcpopt_filled independent_vendor_write(const uint8_t *sheet, size_t n, uint8_t *out, size_t room);
 dhcpopt_relay independent_relay_records(const uint8_t *bytes, size_t n, uint8_t *out, size_t room);
 dhcpopt_filled independent_relay_write(const uint8_t *sheet, size_t n, uint8_t *out, size_t room);
+void *independent_captures_begin(void);
+void independent_captures_feed(void *tally, const uint8_t *part, size_t n);
+static bool captures_feed_rust(void)
+{
+    static void *tally;
+    /* A tally takes 1,000,000 messages. */
+    static size_t fed;
+    if (fed++ % 1000 == 0) {
+        free(tally);
+        tally = independent_captures_begin();
+    }
+    independent_captures_feed(tally, part, part_size);
+    return true;
+}
 static bool lookup_rust(void) { return independent_lookup(in, size, every[0], every[1], every[2], every[3], code).refusal == 0; }
 static bool data_rust(void) { return independent_data(in, size, code).length > 0; }
 static bool copy_rust(void) { return independent_copy(in, size, code, out, ROOM).refusal == 0; }
@@ -152,7 +181,7 @@ typedef struct {
 static const char *const names[3] = {"plain", "rust", "library"};
 static const call_sides calls[] = {SIDES(lookup), SIDES(data), SIDES(copy), SIDES(present), SIDES(records), SIDES(write),
                                    SIDES(vendor_records), SIDES(vendor_write), SIDES(relay_records), SIDES(relay_write), SIDES(index_build), SIDES(index_lookup), SIDES(thirty),
-                                   SIDES(choose), SIDES(check_grouped), SIDES(group), SIDES(ungroup)};
+                                   SIDES(choose), SIDES(check_grouped), SIDES(group), SIDES(ungroup), SIDES(captures_feed)};
 
 static const call_sides *find(const char *name)
 {
@@ -202,6 +231,12 @@ int main(int argc, char **argv)
     /* An index for index_lookup, built by the side that is not counted. */
     if (strcmp(argv[2], "index_lookup") == 0)
         plain_index_build(in, size, numbers, 256);
+    for (part_size = 0; part_size + 3 + size <= PART; part_size += 3 + size) {
+        part[part_size] = 1;
+        part[part_size + 1] = (uint8_t)(size >> 8);
+        part[part_size + 2] = (uint8_t)size;
+        memcpy(part + part_size + 3, in, size);
+    }
     if (strcmp(argv[1], "time") == 0) {
         time_all(c);
         return 0;

@@ -97,4 +97,17 @@ plain_filled plain_choose(const uint8_t *f, size_t n, const uint8_t *class, size
 plain_filled plain_group(const uint8_t *sheet, size_t n, uint8_t *out, size_t room);
 plain_filled plain_ungroup(const uint8_t *f, size_t n, uint8_t *out, size_t room);
 
+/* A file of captures (request 11): where reading is, and the lease times met. place: of the record's first byte; got: how many bytes of the record were read. */
+typedef struct {
+    uint64_t place, messages;
+    uint32_t got, size, stopped, leases, smallest, largest;
+} plain_captures;
+
+plain_captures plain_captures_begin(void);
+
+/* verdicts: 8 numbers, the messages accepted and refused by 1 to 7; held and bytes: 256, by code; message: 1,472 bytes. */
+plain_captures plain_captures_feed(plain_captures p, const uint8_t *part, size_t n, uint8_t *message, uint64_t *verdicts,
+                                   uint64_t *held, uint64_t *bytes);
+size_t plain_captures_report(plain_captures p, const uint64_t *verdicts, const uint64_t *held, const uint64_t *bytes, char out[16384]);
+
 #endif

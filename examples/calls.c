@@ -548,6 +548,43 @@ static void address_pairs(void)
     CHECK(dhcpopt_address_pair_step(list, 8, SIZE_MAX - 2).given == 0);
 }
 
+/* A file of captures: a message with a lease time of 3,600 seconds, one that is refused by 5, and a record of another tag. */
+static void captures(void)
+{
+    static uint64_t verdicts[DHCPOPT_CAPTURES_VERDICTS], held[DHCPOPT_CAPTURES_CODES], bytes[DHCPOPT_CAPTURES_CODES];
+    static uint8_t kept[DHCPOPT_CAPTURES_MESSAGE], text[DHCPOPT_CAPTURES_TEXT], file[512];
+    static const char report[] = "messages 2\naccepted 1\nrefusals 1 0\nrefusals 2 0\nrefusals 3 0\nrefusals 4 0\nrefusals 5 1\nrefusals 6 0\n"
+                                 "refusals 7 0\ncode 51 1 4\ncode 52 1 1\nlease 3600 3600\nrefused 24 493\n";
+    size_t size = OVERLOADED("\x34\1\1\xff", "\x33\4\0\0\x0e\x10\xff", ""), i = 0;
+    verdicts[1] = held[0] = bytes[255] = 7;
+    dhcpopt_captures p = dhcpopt_captures_begin(verdicts, held, bytes);
+    CHECK(p.began == 0 && p.messages == 0 && p.size == 0 && p.read == 0 && p.stage == 0 && p.leases == 0 && p.smallest == 0);
+    CHECK(p.largest == 0 && p.high == 0 && verdicts[1] == 0 && held[0] == 0 && bytes[255] == 0);
+    file[i++] = 1, file[i++] = 0, file[i++] = (uint8_t)size;
+    memcpy(file + i, message, size);
+    i += size;
+    file[i++] = 1, file[i++] = 0, file[i++] = (uint8_t)(size - 1);
+    memcpy(file + i, message, size - 1);
+    i += size - 1;
+    /* in parts: up to the high length byte of the second record, ten bytes of its message, the rest */
+    p = dhcpopt_captures_feed(file, 249, p, kept, verdicts, held, bytes);
+    CHECK(p.began == 247 && p.messages == 1 && p.stage == 2 && p.high == 0 && p.size == 0 && p.read == 0);
+    p = dhcpopt_captures_feed(file + 249, 11, p, kept, verdicts, held, bytes);
+    CHECK(p.began == 247 && p.messages == 1 && p.stage == 0 && p.size == 243 && p.read == 10);
+    p = dhcpopt_captures_feed(file + 260, i - 260, p, kept, verdicts, held, bytes);
+    CHECK(p.began == 493 && p.messages == 2 && p.stage == 0 && p.size == 0 && p.read == 0);
+    CHECK(p.leases == 1 && p.smallest == 3600 && p.largest == 3600);
+    CHECK(verdicts[0] == 1 && verdicts[5] == 1 && held[51] == 1 && bytes[51] == 4 && held[52] == 1 && bytes[52] == 1 && held[53] == 0);
+    p = dhcpopt_captures_feed(kept, 0, p, kept, verdicts, held, bytes);
+    CHECK(p.began == 493 && p.stage == 0);
+    file[0] = 2;
+    p = dhcpopt_captures_feed(file, 1, p, kept, verdicts, held, bytes);
+    CHECK(p.began == 493 && p.stage == 3 && p.messages == 2);
+    memset(text, 238, sizeof text);
+    CHECK(dhcpopt_captures_report(p, verdicts, held, bytes, text) == sizeof report - 1);
+    CHECK(memcmp(text, report, sizeof report - 1) == 0 && text[sizeof report - 1] == 238);
+}
+
 int main(void)
 {
     lookup();
@@ -567,6 +604,7 @@ int main(void)
     vendor();
     vendor_limits();
     grouped();
+    captures();
     if (!failed)
         printf("every member is as declared\n");
     return failed;

@@ -4,7 +4,8 @@
  * libdhcpopt_extra.a has dhcpopt_list, dhcpopt_options_end and dhcpopt_index_copy;
  * libdhcpopt_writer.a has dhcpopt_write, dhcpopt_vendor_write, dhcpopt_relay_write and the calls on grouped sheets (dhcpopt_check_grouped, dhcpopt_choose,
  * dhcpopt_group, dhcpopt_ungroup), libdhcpopt_index.a has dhcpopt_index_build and dhcpopt_index_lookup, and libdhcpopt_reader.a every
- * other call, so a meter that only reads links the reader's archive alone. docs/C-API.md has an example of each call.
+ * other call, so a meter that only reads links the reader's archive alone. libdhcpopt_captures.a has the tally of captures
+ * (dhcpopt_captures_begin, dhcpopt_captures_feed, dhcpopt_captures_report). docs/C-API.md has an example of each call.
  *
  * For every call:
  * - A message or sheet is a pointer and its number of bytes, an index a pointer and its count of numbers. The pointer is never null, also
@@ -37,9 +38,10 @@
  * dhcpopt_list, dhcpopt_options_end and dhcpopt_index_copy, in an archive of their own.
  * 3.6: option 82 has a kind (RFC 3046), and must be the last of a sheet; dhcpopt_relay_records and dhcpopt_relay_write, for what is inside.
  * 3.7: 8 (cookie server), 10 (impress server) and 34 (trailer encapsulation) have no kind any more: they are unknown, and written unjudged.
+ * 3.8: dhcpopt_captures_begin, dhcpopt_captures_feed and dhcpopt_captures_report: the tally of a file of captures.
  */
 #define DHCPOPT_VERSION_MAJOR 3
-#define DHCPOPT_VERSION_MINOR 7
+#define DHCPOPT_VERSION_MINOR 8
 #define DHCPOPT_VERSION (100 * DHCPOPT_VERSION_MAJOR + DHCPOPT_VERSION_MINOR)
 
 #include <stddef.h>
@@ -267,7 +269,9 @@ enum dhcpopt_refusal {
                                                 name: the tag byte. Empty, or a first tag other than 0: 0. Bytes behind: the first */
     DHCPOPT_REFUSED_TOO_DEEP = 21,           /* grouped file, a group of a fifth depth: the tag byte */
     DHCPOPT_REFUSED_NO_WAY_BACK = 22,        /* dhcpopt_ungroup, a name or a group inside: 0 */
-    DHCPOPT_REFUSED_RELAY_NOT_LAST = 23      /* tag 82 is not the last of the sheet: its byte */
+    DHCPOPT_REFUSED_RELAY_NOT_LAST = 23,     /* tag 82 is not the last of the sheet: its byte */
+    DHCPOPT_REFUSED_CAPTURE = 24             /* in the report of captures alone: another tag, a record cut short, or message 1,000,001: the
+                                                record's first byte in the file */
 };
 
 /* Permissions to overload, and the plans that the writer may then use: the value of option 52, or 0 without it. */
@@ -676,6 +680,8 @@ static inline const char *dhcpopt_refusal_name(uint32_t refusal)
         return "no way back";
     case DHCPOPT_REFUSED_RELAY_NOT_LAST:
         return "relay not last";
+    case DHCPOPT_REFUSED_CAPTURE:
+        return "capture";
     default:
         return "";
     }
@@ -814,6 +820,54 @@ DHCPOPT_CALL static inline dhcpopt_address_pair dhcpopt_address_pair_step(const 
     return pair;
 }
 
+/*
+ * A file of captures (libdhcpopt_captures.a): records of tag 1, two-byte length (the high byte first) and a message, end to end; one such
+ * file behind another is such a file. The tally of it is kept in what the caller lends, for as long as the tally lasts: numbers (verdicts:
+ * verdicts[0] the messages accepted, verdicts[n] those refused by n, 1 to 7; held[c] the accepted messages that hold the code c, 52
+ * included, and bytes[c] the data bytes that it has in them, all pieces joined), a buffer for a message that comes in parts, and this
+ * struct, which each call takes and gives by value.
+ */
+enum dhcpopt_captures_sizes {
+    DHCPOPT_CAPTURES_VERDICTS = 8,
+    DHCPOPT_CAPTURES_CODES = 256,
+    DHCPOPT_CAPTURES_MESSAGE = 1472,
+    DHCPOPT_CAPTURES_TEXT = 16384 /* no report is longer */
+};
+
+typedef struct {
+    uint64_t began;    /* the place in the file of the first byte of the record that is read, or is to come */
+    uint64_t messages; /* those seen, at most 1,000,000 */
+    size_t size;       /* of a message of which bytes are still to come: its length, else 0 */
+    size_t read;       /* and how many of its bytes were read */
+    uint32_t stage;    /* 0: before a record, or in its message; 1: behind its tag; 2: behind its high length byte; 3: the record is refused */
+    uint32_t leases;   /* 1 where there is a well-formed lease time (option 51) in an accepted message, else 0 */
+    uint32_t smallest; /* the smallest of them, in seconds */
+    uint32_t largest;  /* and the largest */
+    uint8_t high;      /* at stage 2: the high length byte */
+} dhcpopt_captures;
+
+/* Begins a tally: all of the lent numbers become 0. */
+DHCPOPT_CALL dhcpopt_captures dhcpopt_captures_begin(uint64_t verdicts[DHCPOPT_CAPTURES_VERDICTS], uint64_t held[DHCPOPT_CAPTURES_CODES],
+                                        uint64_t bytes[DHCPOPT_CAPTURES_CODES]);
+
+/*
+ * Takes the next part of the file, of any length, also 0. However the file is cut into parts, the numbers are the same. p is what the call
+ * before gave, and the lent arrays are as it left them; with any others the call is safe too, but its numbers mean nothing.
+ * A record with another tag, or that of message 1,000,001, is refused (stage 3): nothing behind it is taken. No number wraps.
+ */
+DHCPOPT_CALL dhcpopt_captures dhcpopt_captures_feed(const uint8_t *part, size_t size, dhcpopt_captures p, uint8_t message[DHCPOPT_CAPTURES_MESSAGE],
+                                       uint64_t verdicts[DHCPOPT_CAPTURES_VERDICTS], uint64_t held[DHCPOPT_CAPTURES_CODES],
+                                       uint64_t bytes[DHCPOPT_CAPTURES_CODES]);
+
+/*
+ * Writes the report of all that was taken to the front of out, as lines of text, and gives its length; bytes behind it stay as they were.
+ * If the file ends here inside a record, or one was refused, its last line is `refused 24 P`, P being began. docs/LISTING.md says what each
+ * line means. More may be fed afterwards.
+ */
+DHCPOPT_CALL size_t dhcpopt_captures_report(dhcpopt_captures p, const uint64_t verdicts[DHCPOPT_CAPTURES_VERDICTS],
+                               const uint64_t held[DHCPOPT_CAPTURES_CODES], const uint64_t bytes[DHCPOPT_CAPTURES_CODES],
+                               uint8_t out[DHCPOPT_CAPTURES_TEXT]);
+
 /* The archives are compiled for these layouts. */
 #ifdef __cplusplus
 #define DHCPOPT_ASSERT(what) static_assert(what, #what)
@@ -865,6 +919,16 @@ DHCPOPT_ASSERT(sizeof(dhcpopt_wrote) == 16);
 DHCPOPT_MEMBER(dhcpopt_wrote, refusal, 0, 4);
 DHCPOPT_MEMBER(dhcpopt_wrote, plan, 4, 4);
 DHCPOPT_MEMBER(dhcpopt_wrote, place, 8, 8);
+DHCPOPT_ASSERT(sizeof(dhcpopt_captures) == 56);
+DHCPOPT_MEMBER(dhcpopt_captures, began, 0, 8);
+DHCPOPT_MEMBER(dhcpopt_captures, messages, 8, 8);
+DHCPOPT_MEMBER(dhcpopt_captures, size, 16, 8);
+DHCPOPT_MEMBER(dhcpopt_captures, read, 24, 8);
+DHCPOPT_MEMBER(dhcpopt_captures, stage, 32, 4);
+DHCPOPT_MEMBER(dhcpopt_captures, leases, 36, 4);
+DHCPOPT_MEMBER(dhcpopt_captures, smallest, 40, 4);
+DHCPOPT_MEMBER(dhcpopt_captures, largest, 44, 4);
+DHCPOPT_MEMBER(dhcpopt_captures, high, 48, 1);
 
 #undef DHCPOPT_MEMBER
 #undef DHCPOPT_SIZE

@@ -197,7 +197,7 @@ def of_header(named):
 
 def calls_of(header):
     """The names of the calls, and those of the functions that the header itself has."""
-    return (re.findall(r"^DHCPOPT_CALL dhcpopt_\w+ (dhcpopt_\w+)\(", header, flags=re.M),
+    return (re.findall(r"^DHCPOPT_CALL \w+ (dhcpopt_\w+)\(", header, flags=re.M),
             re.findall(r"^(?:DHCPOPT_\w+(?:\([\d, ]+\))? )?static inline [\w ]+?\*?(dhcpopt_\w+)\(", header, flags=re.M))
 
 

@@ -208,7 +208,7 @@ fn piece(m: &[u8], place: usize) -> &[u8]
 }
 
 // The byte at i of two parts end to end, or 0 past their end.
-fn byte_of_both(a: &[u8], b: &[u8], i: usize) -> u8
+pub fn byte_of_both(a: &[u8], b: &[u8], i: usize) -> u8
     ensures { λ r. ⌜ r ≡ getD (now (a .entry) ++ now (b .entry)) i 0 ⌝ }
 {
     if i < a.len() {

@@ -19,7 +19,8 @@ use Rattle.message.specs.Active.{activeOptions}
 use Rattle.records.specs.FieldRecords.{ActiveEnds, shortRecord}
 use Rattle.records.specs.Places.{Stands, leftAt, joinedAt}
 use Rattle.records.specs.JoinedRecords.{longRecord, firstRecord, joinedRecord, oneMore, counted, Tells, sheetBy}
-use Rattle.records.proofs.Places.{Goes, stands-first, left-first}
+use Rattle.records.specs.Places.{Goes}
+use Rattle.records.proofs.Places.{stands-first, left-first}
 
 -- ---- the head of a record, before data that were laid first
 

@@ -14,7 +14,7 @@ use Rattle.wire.specs.Walk.{itemAt}
 use Rattle.wire.proofs.Laws.{rest, rest-pad, rest-end, body-length}
 use Rattle.message.specs.Active.{activeIn, optionsIn, fieldFrom, laterFields, optionsFrom, activeOptions}
 use Rattle.records.specs.FieldRecords.{hasEnd, fieldEnds, ActiveEnds}
-use Rattle.records.specs.Places.{fieldAt, snamePlace, nextPlace, Stands, leftAt}
+use Rattle.records.specs.Places.{fieldAt, snamePlace, nextPlace, Stands, leftAt, toGo, bytesLeft, Goes}
 use Rattle.records.proofs.Within.{inside, pad-ends, option-within, option-found, option-ends}
 
 -- ---- a place, and the offset in its field
@@ -37,15 +37,6 @@ byte-at m sname x h = getD-take 64 (drop 44 m) x 0 (omega (arith, length-take 64
 -- the data from i + 2 on, as a part up to i + 2 + n
 pub part-is : (m : List ℕ) (i n : ℕ) → take (i + 2 + n - (i + 2)) (drop (i + 2) m) ≡ take n (drop (i + 2) m)
 part-is m i n = let k : i + 2 + n - (i + 2) ≡ n = omega arith in rw k
-
--- what is left of the walk, in bytes: it falls from one field to the next, too
-abbrev toGo : List ℕ → Field → ℕ → ℕ
-toGo m options i = 192 + (length m - i)
-toGo m file i = 64 + (236 - i)
-toGo m sname i = 108 - i
-
-abbrev pub bytesLeft : List ℕ → ℕ → ℕ
-bytesLeft m i = toGo m (fieldAt i) i
 
 less-on : (m : List ℕ) (fd : Field) (x y : ℕ) → x < length (bytes fd m) → x < y → toGo m fd (start fd + y) < toGo m fd (start fd + x)
 less-on m options x y h l = omega (arith, length-drop 240 m)
@@ -131,12 +122,6 @@ module _ (v : ℕ) (m : List ℕ) where
 
   -- ---- a step of the walk
 
-  -- the walk comes from the place i to j, and passes no option between
-  pub record Goes (i j : ℕ) : Type 0 where
-    pub stands : Stands v m j
-    pub same : leftAt v m i ≡ leftAt v m j
-    pub less : bytesLeft m j < bytesLeft m i
-
   module _ {i : ℕ} (y : Stands v m i) where
     abbrev fd : Field
     fd = y .field
@@ -166,7 +151,7 @@ module _ (v : ℕ) (m : List ℕ) where
     less-in : (z : ℕ) → x < z → z < length f → bytesLeft m (start fd + z) < bytesLeft m i
     less-in z l h = omega (arith, go-at fd z h, ap (bytesLeft m) (y .place), go-at fd x in-field, less-on m fd x z in-field l)
 
-    pub at-pad : getD m i 0 ≡ 0 → Goes i (i + 1)
+    pub at-pad : getD m i 0 ≡ 0 → Goes v m i (i + 1)
     at-pad e =
         let z : getD f x 0 ≡ 0 = byte-is ∙ e in
         let p : i + 1 ≡ start fd + (x + 1) = omega (arith, y .place) in
@@ -248,7 +233,7 @@ module _ (v : ℕ) (m : List ℕ) where
       pub end-none : r ≡ 0 → leftAt v m i ≡ []
       end-none z = left-later ∙ none-after fd (sym next-is ∙ z)
 
-      pub end-next : ActiveEnds v m → (r ≡ 0 → ⊥) → Goes i r
+      pub end-next : ActiveEnds v m → (r ≡ 0 → ⊥) → Goes v m i r
       end-next a n =
           let w : After fd r = rw (← next-is) at (next-after fd (λ z. n (next-is ∙ z))) in
           let g : Field = w .field in

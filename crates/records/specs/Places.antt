@@ -2,9 +2,9 @@
 use mathlib.Core.Path.{_≡_}
 use mathlib.Core.Bool.{true, cond}
 use mathlib.Core.List.{List}
-use Prim.Native.Nat.{ℕ, _+_, _-_}
+use Prim.Native.Nat.{ℕ, _+_, _-_, _<_}
 use lib.Dec.{leb}
-use lib.ListN.{drop}
+use lib.ListN.{length, drop}
 use Rattle.options.specs.Message.{Field, options, file, sname, start, bytes, Opt, endToEnd}
 use Rattle.options.specs.Reading.{parse, fileIn, snameIn, pieces}
 use Rattle.message.specs.Active.{activeIn, optionsFrom}
@@ -39,3 +39,18 @@ leftAt v m i = optionsFrom v m (fieldAt i) (i - start (fieldAt i))
 -- the data of those with the code c, end to end
 abbrev pub joinedAt : ℕ → List ℕ → ℕ → ℕ → List ℕ
 joinedAt v m i c = endToEnd (pieces c (leftAt v m i))
+
+-- what is left of the walk, in bytes: it falls from one field to the next, too
+abbrev pub toGo : List ℕ → Field → ℕ → ℕ
+toGo m options i = 192 + (length m - i)
+toGo m file i = 64 + (236 - i)
+toGo m sname i = 108 - i
+
+abbrev pub bytesLeft : List ℕ → ℕ → ℕ
+bytesLeft m i = toGo m (fieldAt i) i
+
+-- the walk comes from the place i to j, and passes no option between
+pub record Goes (v : ℕ) (m : List ℕ) (i j : ℕ) : Type 0 where
+  pub stands : Stands v m j
+  pub same : leftAt v m i ≡ leftAt v m j
+  pub less : bytesLeft m j < bytesLeft m i

@@ -100,7 +100,7 @@ fn sname_place(over: u32) -> usize
 }
 
 // Where reading goes on behind the END at a place: where the next active field starts, or 0 where there is none.
-fn next_place(over: u32, i: usize) -> usize
+pub fn next_place(over: u32, i: usize) -> usize
     ensures { λ r. ⌜ r ≡ nextPlace over (fieldAt i) ⌝ }
 {
     if i < 108 {

@@ -4,6 +4,7 @@
 use crate::rules::answers::{
     Codes, Content, Listed, Lookup, Origin, Part, Refusal, RollCall, Several, EMPTY,
 };
+use crate::rules::captures::Tally;
 use crate::rules::{groups, index, reading, relay, vendor, writing};
 use std::slice;
 
@@ -436,4 +437,18 @@ pub unsafe extern "C" fn independent_ungroup(
     room: usize,
 ) -> Filled {
     groups::ungroup(lent(file, n), lent_mut(out, room)).into()
+}
+
+/// A tally of captures, for the caller to free.
+#[no_mangle]
+pub extern "C" fn independent_captures_begin() -> *mut Tally {
+    Box::into_raw(Box::default())
+}
+
+/// # Safety
+/// As a C call's: `tally` is what `independent_captures_begin` gave, `part` is
+/// `n` bytes.
+#[no_mangle]
+pub unsafe extern "C" fn independent_captures_feed(tally: *mut Tally, part: *const u8, n: usize) {
+    (*tally).feed(slice::from_raw_parts(part, n));
 }

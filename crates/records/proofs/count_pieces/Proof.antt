@@ -4,7 +4,8 @@ use native.Mathlib.Omega.{arith}
 use mathlib.Core.Path.{_≡_, refl}
 use Prim.Native.Nat.{_+_, _≤_}
 use lib.ListN.{length, getD}
-use Rattle.records.proofs.Places.{Goes, bytesLeft, stands-in, at-pad, option-in, option-stands, optionAt, option-left, option-less, end-none, end-next}
+use Rattle.records.specs.Places.{Goes, bytesLeft}
+use Rattle.records.proofs.Places.{stands-in, at-pad, option-in, option-stands, optionAt, option-left, option-less, end-none, end-next}
 use Rattle.records.proofs.Joining.{Counting, counting-begins, counting-ends, counting-goes, counting-on}
 use Rattle.records.proofs.count_pieces.Statement.{statement}
 use Rattle.records.proofs.count_pieces.Tie as tie

@@ -8,7 +8,8 @@ use Prim.Native.Nat.{ℕ, _+_, _≤_}
 use lib.Dec.{eqb}
 use lib.ListN.{length, getD, take, drop}
 use Rattle.records.specs.Places.{joinedAt}
-use Rattle.records.proofs.Places.{Goes, bytesLeft, part-is, stands-in, at-pad, option-in, option-stands, optionAt, option-left, option-less, end-none, end-next}
+use Rattle.records.specs.Places.{Goes, bytesLeft}
+use Rattle.records.proofs.Places.{part-is, stands-in, at-pad, option-in, option-stands, optionAt, option-left, option-less, end-none, end-next}
 use Rattle.records.proofs.Joining.{Still, still-begins, still-ends, still-room, still-on, Gathering, gathering-goes, joined-none, joined-more}
 use Rattle.records.proofs.join.Statement.{statement}
 use Rattle.records.proofs.join.Tie as tie

@@ -12,7 +12,8 @@ use Rattle.buffer.proofs.Writing.{written-as}
 use Rattle.records.specs.FieldRecords.{shortRecord}
 use Rattle.records.specs.Places.{Stands, leftAt, joinedAt}
 use Rattle.records.specs.JoinedRecords.{firstRecord, sheetBy}
-use Rattle.records.proofs.Places.{Goes, bytesLeft, part-is, stands-in, at-pad, option-in, option-stands, optionAt, option-left, option-less, option-size, end-none, end-next}
+use Rattle.records.specs.Places.{Goes, bytesLeft}
+use Rattle.records.proofs.Places.{part-is, stands-in, at-pad, option-in, option-stands, optionAt, option-left, option-less, option-size, end-none, end-next}
 use Rattle.records.proofs.Joining.{Putting, putting-begins, putting-ends, putting-goes, putting-room, putting-small, putting-on, putting-once}
 use Rattle.records.proofs.put_codes.Statement.{statement}
 use Rattle.records.proofs.put_codes.Tie as tie

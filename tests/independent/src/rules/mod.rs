@@ -1,10 +1,11 @@
 //! The rules of document 01: what is answered, the kinds, reading, writing;
 //! of request 05: vendor information; of request 07: an index; of request 08: grouped
-//! sheets; and of request 09: relay information.
+//! sheets; of request 09: relay information; and of request 11: captures.
 
 #![forbid(unsafe_code)]
 
 pub mod answers;
+pub mod captures;
 pub mod groups;
 pub mod index;
 pub mod kinds;

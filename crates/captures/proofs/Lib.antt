@@ -1,0 +1,5 @@
+pub mod Closing
+pub mod Stages
+pub mod Keeping
+pub mod Runs
+pub mod Beginning

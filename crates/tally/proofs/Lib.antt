@@ -1,0 +1,4 @@
+pub mod Laws
+pub mod Times
+pub mod Counting
+pub mod Noting

@@ -21,6 +21,9 @@ pub mod Tries
 pub mod Writer
 pub mod Declined
 pub mod WriterOnly
+-- Where no cutting of the pieces holds them, there is no room
+pub mod Cuttings
+pub mod Room
 -- The writer over any list of plans
 pub mod Trying
 -- Cases of long records, computed

@@ -6,10 +6,11 @@
 #include <stdlib.h>
 #include <string.h>
 
-enum { ROOM = 4096, UNTOUCHED = 0xA5 };
+enum { ROOM = 4096, UNTOUCHED = 0xA5, COPIED = 1472, SHEET = 2048 };
 
 static const char *const kinds[] = {"",          "address",    "addresses", "pairs", "flag",  "octet", "number16",
-                                    "numbers16", "unsigned32", "signed32",  "text",  "opaque"};
+                                    "numbers16", "unsigned32", "signed32",  "text",  "opaque",
+                                    "relay"};
 static const char *const fields[] = {"", "options", "file", "sname"};
 static const uint64_t every[4] = {UINT64_MAX, UINT64_MAX, UINT64_MAX, UINT64_MAX};
 static const uint64_t none[4];
@@ -50,6 +51,54 @@ static void hold_members(plain_answer a)
     hold(a.several <= there && (a.several || a.whole == 0), "several");
 }
 
+static unsigned long mixed(const uint8_t *p, size_t length)
+{
+    unsigned long sum = 0;
+    for (size_t i = 0; i < length; i++)
+        sum = (sum * 31 + p[i]) % 1000003;
+    return sum;
+}
+
+/* A lent buffer of rising bytes, and the line of what a call gave of it. */
+static uint8_t *lent(size_t room)
+{
+    static uint8_t out[ROOM];
+    for (size_t i = 0; i < room; i++)
+        out[i] = (uint8_t)(160 + i);
+    return out;
+}
+
+static void given(plain_filled f, const uint8_t *out, size_t room)
+{
+    if (f.refusal != 0)
+        printf(" refused %u %zu", f.refusal, f.place);
+    else
+        printf(" %zu %lu", f.size, mixed(out, f.size));
+    printf(" rest %lu\n", mixed(out + f.size, room - f.size));
+}
+
+static void print_present(plain_codes p)
+{
+    printf("present %llu %llu %llu %llu count %u lowest %u refusal %u %zu\n", (unsigned long long)p.words[0], (unsigned long long)p.words[1],
+           (unsigned long long)p.words[2], (unsigned long long)p.words[3], p.count, p.lowest, p.refusal, p.place);
+}
+
+static void print_copy(uint8_t c)
+{
+    uint8_t *out = lent(COPIED);
+    plain_filled f = plain_copy(m, n, c, out, COPIED);
+    printf("copy %u", c);
+    given(f, out, COPIED);
+}
+
+static void print_records(void)
+{
+    uint8_t *out = lent(SHEET);
+    plain_filled f = plain_records(m, n, out, SHEET);
+    printf("records");
+    given(f, out, SHEET);
+}
+
 /* A refused message is refused alike by every call. */
 static void refused(plain_codes p)
 {
@@ -68,14 +117,9 @@ static void refused(plain_codes p)
         hold(e.start == 0 && e.length == 0, "data of a refused message");
     }
     printf("refused %u %zu\n", p.refusal, p.place);
-}
-
-static unsigned long mixed(const uint8_t *p, size_t length)
-{
-    unsigned long sum = 0;
-    for (size_t i = 0; i < length; i++)
-        sum = (sum * 31 + p[i]) % 1000003;
-    return sum;
+    print_present(p);
+    print_copy(53);
+    print_records();
 }
 
 static plain_piece pieces[ROOM];
@@ -131,8 +175,7 @@ static void accepted(plain_codes p)
     printf("accepted %zu\n", count);
     for (size_t i = 0; i < count; i++)
         printf("%u %zu %zu %s\n", pieces[i].code, pieces[i].start, pieces[i].length, fields[pieces[i].field]);
-    printf("present %llu %llu %llu %llu count %u lowest %u\n", (unsigned long long)p.words[0], (unsigned long long)p.words[1],
-           (unsigned long long)p.words[2], (unsigned long long)p.words[3], p.count, p.lowest);
+    print_present(p);
     for (size_t i = 0; i < count; i++) {
         uint8_t c = pieces[i].code;
         plain_answer a = plain_lookup(m, n, every, c);
@@ -146,16 +189,15 @@ static void accepted(plain_codes p)
         else
             printf("%u broken %u %zu", c, a.refusal, a.place);
         printf(" %s %zu %zu", fields[a.field], a.offset, a.start);
-        if (a.several) {
-            plain_filled f = plain_copy(m, n, c, out, ROOM);
-            printf(" several %zu\ncopy %u %zu %lu", a.whole, c, f.size, mixed(out, f.size));
-        }
+        if (a.several)
+            printf(" several %zu", a.whole);
         puts("");
+        print_copy(c);
     }
     memset(out, UNTOUCHED, ROOM);
     plain_filled f = plain_records(m, n, out, ROOM);
     hold(f.refusal == 0 && untouched(out + f.size, ROOM - f.size), "records");
-    printf("records %zu %lu\n", f.size, mixed(out, f.size));
+    print_records();
     hold(plain_records(m, n, out, f.size).size == f.size, "records, exact room");
     if (f.size > 0) {
         memset(out, UNTOUCHED, ROOM);
@@ -167,11 +209,10 @@ static void accepted(plain_codes p)
 int main(void)
 {
     for (;; cases++) {
-        int high = getchar();
-        if (high == EOF)
+        uint8_t head[8]; /* six zeros, and the length */
+        if (fread(head, 1, sizeof head, stdin) < sizeof head)
             break;
-        n = (size_t)high << 8;
-        n |= (size_t)getchar();
+        n = (size_t)head[6] << 8 | head[7];
         if (fread(m, 1, n, stdin) != n)
             hold(false, "cut off");
         hold(plain_lookup(m, n, every, 0).refusal == 10 && plain_lookup(m, n, every, 255).refusal == 10, "lookup of 0 or 255");

@@ -6,6 +6,7 @@
  * compare grouped FILE...    checks each grouped file, chooses from it and takes it back with both: cut off anywhere, any byte changed; its
  *                            bytes moved as a sheet
  * compare sheets FILE...     writes each sheet with both: every buffer size, every permission, cut off anywhere, any byte changed
+ * compare relay FILE...      the same as sub-options
  * compare vendor FILE...     reads each as items with both, and writes it as records of items: every room, cut off anywhere, any byte changed
  */
 #include "input.h"
@@ -225,18 +226,37 @@ static void compare_items(const char *name, size_t n, size_t room)
         fail("items written differ", name);
 }
 
-static void compare_vendor(const char *name)
+/* As compare_items, of sub-options. */
+static void compare_sub_options(const char *name, size_t n, size_t room)
+{
+    static uint8_t a[ROOM], b[ROOM];
+    memset(a, UNTOUCHED, ROOM);
+    memset(b, UNTOUCHED, ROOM);
+    plain_relay r = plain_relay_records(in, n, a, room);
+    dhcpopt_relay q = dhcpopt_relay_records(in, n, b, room);
+    if (r.refusal != q.refusal || r.size != q.size || r.place != q.place || r.circuit_start != q.circuit.start ||
+        r.circuit_length != q.circuit.length || r.remote_start != q.remote.start || r.remote_length != q.remote.length ||
+        memcmp(a, b, ROOM) != 0)
+        fail("sub-options read differ", name);
+    plain_filled p = plain_relay_write(in, n, a, room);
+    dhcpopt_filled l = dhcpopt_relay_write(in, n, b, room);
+    if (p.refusal != l.refusal || p.size != l.size || p.place != l.place || memcmp(a, b, ROOM) != 0)
+        fail("sub-options written differ", name);
+}
+
+/* Of the file: every room, cut off anywhere, any byte changed. */
+static void compare_inside(const char *name, void (*compare)(const char *, size_t, size_t))
 {
     for (size_t room = 0; room <= 2 * size; room++)
-        compare_items(name, size, room);
+        compare(name, size, room);
     for (size_t n = 0; n <= size; n++)
-        compare_items(name, n, ROOM);
+        compare(name, n, ROOM);
     for (size_t i = 0; i < size; i++) {
         uint8_t was = in[i];
         for (unsigned x = 0; x < 256; x++) {
             in[i] = (uint8_t)x;
-            compare_items(name, size, ROOM);
-            compare_items(name, size, 255);
+            compare(name, size, ROOM);
+            compare(name, size, 255);
         }
         in[i] = was;
     }
@@ -291,7 +311,7 @@ static void compare_file(const char *name)
 int main(int argc, char **argv)
 {
     if (argc < 3)
-        fail("usage", "compare messages|index|sheets|vendor|grouped FILE...");
+        fail("usage", "compare messages|index|sheets|vendor|relay|grouped FILE...");
     for (int i = 2; i < argc; i++) {
         memset(in, 0, sizeof in);
         size = take(argv[i], in, sizeof in);
@@ -300,7 +320,9 @@ int main(int argc, char **argv)
         else if (strcmp(argv[1], "index") == 0)
             compare_index(argv[i]);
         else if (strcmp(argv[1], "vendor") == 0)
-            compare_vendor(argv[i]);
+            compare_inside(argv[i], compare_items);
+        else if (strcmp(argv[1], "relay") == 0)
+            compare_inside(argv[i], compare_sub_options);
         else if (strcmp(argv[1], "grouped") == 0)
             compare_file(argv[i]);
         else {

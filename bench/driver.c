@@ -2,7 +2,7 @@
  * driver plain|rust|library CALL FILE [NUMBER...]   makes one call, for `run` to count
  * driver time CALL FILE [NUMBER...]                 prints the nanoseconds of a call: plain C's, plain Rust's and the library's
  *
- * FILE is a message, the sheet to write or to group, for vendor_records the data of an option 43, or a grouped file, from which is chosen for
+ * FILE is a message, the sheet to write or to group, for vendor_records and relay_records the data of an option 43 or 82, or a grouped file, from which is chosen for
  * the class "meter".
  * The numbers: the code for lookup, data, copy and index_lookup; the buffer's size and the permission for write.
  * The library's side is left out unless LIBRARY is defined, Rust's unless RUST is.
@@ -56,6 +56,8 @@ static bool ungroup_plain(void) { return plain_ungroup(in, size, out, ROOM).refu
 static bool write_plain(void) { return plain_write(in, size, out, room, permission).refusal == 0; }
 static bool vendor_records_plain(void) { return plain_vendor_records(in, size, out, ROOM).refusal == 0; }
 static bool vendor_write_plain(void) { return plain_vendor_write(in, size, out, ROOM).refusal == 0; }
+static bool relay_records_plain(void) { return plain_relay_records(in, size, out, ROOM).refusal == 0; }
+static bool relay_write_plain(void) { return plain_relay_write(in, size, out, ROOM).refusal == 0; }
 
 #ifdef LIBRARY
 #define LIBRARY_SIDE(call) call##_library
@@ -84,6 +86,8 @@ static bool ungroup_library(void) { return dhcpopt_ungroup(in, size, out, ROOM).
 static bool write_library(void) { return dhcpopt_write(in, size, out, room, permission).refusal == 0; }
 static bool vendor_records_library(void) { return dhcpopt_vendor_records(in, size, out, ROOM).refusal == 0; }
 static bool vendor_write_library(void) { return dhcpopt_vendor_write(in, size, out, ROOM).refusal == 0; }
+static bool relay_records_library(void) { return dhcpopt_relay_records(in, size, out, ROOM).refusal == 0; }
+static bool relay_write_library(void) { return dhcpopt_relay_write(in, size, out, ROOM).refusal == 0; }
 #else
 #define LIBRARY_SIDE(call) NULL
 #endif
@@ -105,6 +109,8 @@ dhcpopt_filled independent_ungroup(const uint8_t *f, size_t n, uint8_t *out, siz
 dhcpopt_wrote independent_write(const uint8_t *sheet, size_t n, uint8_t *m, size_t room, uint8_t permission);
 dhcpopt_filled independent_vendor_records(const uint8_t *bytes, size_t n, uint8_t *out, size_t room);
 dhcpopt_filled independent_vendor_write(const uint8_t *sheet, size_t n, uint8_t *out, size_t room);
+dhcpopt_relay independent_relay_records(const uint8_t *bytes, size_t n, uint8_t *out, size_t room);
+dhcpopt_filled independent_relay_write(const uint8_t *sheet, size_t n, uint8_t *out, size_t room);
 static bool lookup_rust(void) { return independent_lookup(in, size, every[0], every[1], every[2], every[3], code).refusal == 0; }
 static bool data_rust(void) { return independent_data(in, size, code).length > 0; }
 static bool copy_rust(void) { return independent_copy(in, size, code, out, ROOM).refusal == 0; }
@@ -130,6 +136,8 @@ static bool ungroup_rust(void) { return independent_ungroup(in, size, out, ROOM)
 static bool write_rust(void) { return independent_write(in, size, out, room, permission).refusal == 0; }
 static bool vendor_records_rust(void) { return independent_vendor_records(in, size, out, ROOM).refusal == 0; }
 static bool vendor_write_rust(void) { return independent_vendor_write(in, size, out, ROOM).refusal == 0; }
+static bool relay_records_rust(void) { return independent_relay_records(in, size, out, ROOM).refusal == 0; }
+static bool relay_write_rust(void) { return independent_relay_write(in, size, out, ROOM).refusal == 0; }
 #else
 #define RUST_SIDE(call) NULL
 #endif
@@ -143,7 +151,7 @@ typedef struct {
 
 static const char *const names[3] = {"plain", "rust", "library"};
 static const call_sides calls[] = {SIDES(lookup), SIDES(data), SIDES(copy), SIDES(present), SIDES(records), SIDES(write),
-                                   SIDES(vendor_records), SIDES(vendor_write), SIDES(index_build), SIDES(index_lookup), SIDES(thirty),
+                                   SIDES(vendor_records), SIDES(vendor_write), SIDES(relay_records), SIDES(relay_write), SIDES(index_build), SIDES(index_lookup), SIDES(thirty),
                                    SIDES(choose), SIDES(check_grouped), SIDES(group), SIDES(ungroup)};
 
 static const call_sides *find(const char *name)

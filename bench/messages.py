@@ -1,6 +1,6 @@
 #!/usr/bin/env python3
 """
-messages.py                 writes the measured messages, sheets and vendor information to messages/*.bin, *.sheet, *.vendor and *.records
+messages.py                 writes the measured messages, sheets, vendor and relay information to messages/*.bin, *.sheet, *.vendor, *.relay and *.records
 messages.py growth FOLDER   writes those of 10 to 100 options that `run growth` measures
 """
 
@@ -189,6 +189,21 @@ def item_records():
     return b"".join(record(c, d) for c, d in probes())
 
 
+def agent():
+    """What a relay of a clinic adds: circuit id, remote id, a subscriber id and a link selection, as code and data."""
+    return [(1, b"clinic-07/eth0:3"), (2, bytes.fromhex("525400123456")), (6, b"meter of the cold room"), (5, address(0))]
+
+
+def sub_options():
+    """The same inside an option 82."""
+    return b"".join(option(c, d) for c, d in agent())
+
+
+def sub_option_records():
+    """The same as records."""
+    return b"".join(record(c, d) for c, d in agent())
+
+
 def growth(n):
     """A message and a sheet of n options of 12 bytes each, codes without a row; in the message 51 stands behind them."""
     codes = range(100, 100 + n)
@@ -250,6 +265,8 @@ else:
             ("eight.sheet", eight()),
             ("probes.vendor", items()),
             ("probes.records", item_records()),
+            ("agent.relay", sub_options()),
+            ("agent.records", sub_option_records()),
             ("clinics.grouped", clinics()),
             ("flat.grouped", group(b"", flat())),
             ("flat.settings", flat()),

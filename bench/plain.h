@@ -24,7 +24,8 @@ enum {
     PLAIN_UNSIGNED32,
     PLAIN_SIGNED32,
     PLAIN_TEXT,
-    PLAIN_OPAQUE
+    PLAIN_OPAQUE,
+    PLAIN_RELAY
 };
 
 /* What a call does not give is 0. A refusal is 01's number, 0 if there is none. */
@@ -57,6 +58,12 @@ typedef struct {
     size_t size, place;
 } plain_filled;
 
+/* Request 09: the records of sub-options; start and length of the data of circuit id and remote id, a start of 0 where there is none. */
+typedef struct {
+    uint32_t refusal;
+    size_t size, place, circuit_start, circuit_length, remote_start, remote_length;
+} plain_relay;
+
 /* refusal 0: written, by that plan. */
 typedef struct {
     uint32_t refusal, plan;
@@ -80,6 +87,9 @@ plain_answer plain_index_lookup(const uint8_t *m, size_t n, const uint16_t *inde
 plain_wrote plain_write(const uint8_t *sheet, size_t n, uint8_t *m, size_t room, uint8_t permission);
 plain_filled plain_vendor_records(const uint8_t *bytes, size_t n, uint8_t *out, size_t room);
 plain_filled plain_vendor_write(const uint8_t *sheet, size_t n, uint8_t *out, size_t room);
+
+plain_relay plain_relay_records(const uint8_t *bytes, size_t n, uint8_t *out, size_t room);
+plain_filled plain_relay_write(const uint8_t *sheet, size_t n, uint8_t *out, size_t room);
 
 /* Grouped sheets, request 08. */
 plain_checked plain_check_grouped(const uint8_t *f, size_t n);

@@ -9,25 +9,28 @@
 enum { SNAME = 44, FILE_FIELD = 108, COOKIE = 236, OPTIONS = 240, LONGEST = 1472 };
 enum { PAD = 0, OVERLOAD = 52, END = 255 };
 
-/* Request 04: the kinds by ranges of codes, in rising order, those without a row too. A range begins behind the one before; the last is there to fill the
-   64 rows. */
+/* Request 09: "8 where sub-options don't fill the data exactly". */
+#define VALUE_FAULT(kind) ((kind) == PLAIN_RELAY ? 8u : 9u)
+
+/* Request 04: the kinds by ranges of codes, in rising order, those without a row too, 8, 10 and 34 among them (request 10). A range begins behind the
+   one before; the last is there to fill the 64 rows. */
 static const uint8_t RANGE_LAST[64] = {
-    0, 1, 2, 11, 12, 13, 15, 16, 18, 20, 21, 22, 23, 24, 25, 26, 27, 28, 31, 32, 33, 34, 35, 36, 37,
-    38, 39, 40, 42, 43, 45, 46, 47, 49, 50, 51, 53, 54, 55, 56, 57, 59, 61, 63, 64, 65, 67, 76, 255,
-    255, 255, 255, 255, 255, 255, 255, 255, 255, 255, 255, 255, 255, 255, 255,
+    0, 1, 2, 7, 8, 9, 10, 11, 12, 13, 15, 16, 18, 20, 21, 22, 23, 24, 25, 26, 27, 28, 31, 32, 33, 34,
+    35, 36, 37, 38, 39, 40, 42, 43, 45, 46, 47, 49, 50, 51, 53, 54, 55, 56, 57, 59, 61, 63, 64, 65,
+    67, 76, 81, 82, 255, 255, 255, 255, 255, 255, 255, 255, 255, 255,
 };
 static const uint8_t RANGE_KIND[64] = {
-    PLAIN_NO_ROW, PLAIN_ADDRESS, PLAIN_SIGNED32, PLAIN_ADDRESSES, PLAIN_TEXT, PLAIN_NUMBER16,
+    PLAIN_NO_ROW, PLAIN_ADDRESS, PLAIN_SIGNED32, PLAIN_ADDRESSES, PLAIN_NO_ROW, PLAIN_ADDRESSES,
+    PLAIN_NO_ROW, PLAIN_ADDRESSES, PLAIN_TEXT, PLAIN_NUMBER16,
     PLAIN_TEXT, PLAIN_ADDRESS, PLAIN_TEXT, PLAIN_FLAG, PLAIN_PAIRS, PLAIN_NUMBER16, PLAIN_OCTET,
     PLAIN_UNSIGNED32, PLAIN_NUMBERS16, PLAIN_NUMBER16, PLAIN_FLAG, PLAIN_ADDRESS, PLAIN_FLAG,
-    PLAIN_ADDRESS, PLAIN_PAIRS, PLAIN_FLAG, PLAIN_UNSIGNED32, PLAIN_FLAG, PLAIN_OCTET,
+    PLAIN_ADDRESS, PLAIN_PAIRS, PLAIN_NO_ROW, PLAIN_UNSIGNED32, PLAIN_FLAG, PLAIN_OCTET,
     PLAIN_UNSIGNED32, PLAIN_FLAG, PLAIN_TEXT, PLAIN_ADDRESSES, PLAIN_OPAQUE, PLAIN_ADDRESSES,
     PLAIN_OCTET, PLAIN_OPAQUE, PLAIN_ADDRESSES, PLAIN_ADDRESS, PLAIN_UNSIGNED32, PLAIN_OCTET,
     PLAIN_ADDRESS, PLAIN_OPAQUE, PLAIN_TEXT, PLAIN_NUMBER16, PLAIN_UNSIGNED32, PLAIN_OPAQUE,
     PLAIN_NO_ROW, PLAIN_TEXT, PLAIN_ADDRESSES, PLAIN_TEXT, PLAIN_ADDRESSES, PLAIN_NO_ROW,
-    PLAIN_NO_ROW, PLAIN_NO_ROW, PLAIN_NO_ROW, PLAIN_NO_ROW, PLAIN_NO_ROW, PLAIN_NO_ROW,
-    PLAIN_NO_ROW, PLAIN_NO_ROW, PLAIN_NO_ROW, PLAIN_NO_ROW, PLAIN_NO_ROW, PLAIN_NO_ROW,
-    PLAIN_NO_ROW, PLAIN_NO_ROW, PLAIN_NO_ROW,
+    PLAIN_RELAY, PLAIN_NO_ROW, PLAIN_NO_ROW, PLAIN_NO_ROW, PLAIN_NO_ROW, PLAIN_NO_ROW,
+    PLAIN_NO_ROW, PLAIN_NO_ROW, PLAIN_NO_ROW, PLAIN_NO_ROW, PLAIN_NO_ROW,
 };
 
 /* The first range that doesn't end before the code: by halves, six times, without a branch. */
@@ -70,6 +73,8 @@ static bool length_fits(uint32_t kind, uint8_t c, size_t n)
         return n == 2;
     case PLAIN_NUMBERS16:
         return n % 2 == 0 && n > 0;
+    case PLAIN_RELAY:
+        return n >= 2;
     default:
         return n > (c == 61);
     }
@@ -115,6 +120,12 @@ static bool value_fits(uint32_t kind, uint8_t c, const uint8_t *d, size_t n)
             if (d[i] < 1 || d[i] > 127)
                 return false;
         return true;
+    case PLAIN_RELAY: {
+        size_t i = 0;
+        while (n - i >= 2 && n - i - 2 >= d[i + 1])
+            i += d[i + 1] + 2u;
+        return i == n; /* else the length is wrong: VALUE_FAULT */
+    }
     default:
         return true;
     }

@@ -16,6 +16,7 @@ static plain_wrote judge(const uint8_t *s, size_t n, size_t *size)
     uint64_t seen[4] = {0};
     size_t taken = n, router = 0;
     bool late = false; /* tag 1 stands behind tag 3 */
+    size_t relay = 0, relay_end = n; /* 82, and where it ends: not before the sheet does */
     for (size_t i = 0; i < n;) {
         if (n - i < HEAD)
             return refused(12, i);
@@ -36,17 +37,23 @@ static plain_wrote judge(const uint8_t *s, size_t n, size_t *size)
         if (!length_fits(kind, c, length))
             return refused(8, i);
         if (!value_fits(kind, c, d, length))
-            return refused(9, i);
+            return refused(VALUE_FAULT(kind), i);
         if (c == ROUTER)
             router = i;
         if (c == MASK)
             late = seen[0] >> ROUTER & 1;
+        if (kind == PLAIN_RELAY) {
+            relay = i;
+            relay_end = i + HEAD + length;
+        }
         taken--; /* an option's length takes one byte, a record's two */
         if (length > LONGEST_PIECE)
             taken += (length - 1) / LONGEST_PIECE * 2; /* a head for each piece but the first */
         i += HEAD + length;
     }
     *size = taken;
+    if (!late && relay_end < n)
+        return refused(23, relay);
     return late ? refused(14, router) : refused(0, 0);
 }
 

@@ -403,6 +403,8 @@ static void grouped(void)
     CHECK(c.refusal == DHCPOPT_REFUSED_BAD_GROUP && c.place == 21);
     c = dhcpopt_check_grouped(file, 3);
     CHECK(c.refusal == DHCPOPT_REFUSED_BAD_GROUP && c.place == 0);
+    c = dhcpopt_check_grouped((const uint8_t *)"\x34\x00\x00", 3); /* 20, not 10 */
+    CHECK(c.refusal == DHCPOPT_REFUSED_BAD_GROUP && c.place == 0);
     uint8_t whole[21];
     memcpy(whole, file, sizeof whole);
     whole[2] = 18;
@@ -428,6 +430,124 @@ static void grouped(void)
     CHECK(f.refusal == DHCPOPT_NOT_REFUSED && f.size == 4 && f.place == 0 && memcmp(out, type, 4) == 0 && out[4] == 53);
 }
 
+/* The helpers of the header: the names, a sheet in the making with every room, and the steps. */
+static void names(void)
+{
+    CHECK(DHCPOPT_CODE_SUBNET_MASK == 1 && DHCPOPT_CODE_LEASE_TIME == 51 && DHCPOPT_CODE_CLIENT_IDENTIFIER == 61 && DHCPOPT_CODE_STDA_SERVER == 76);
+    CHECK(DHCPOPT_TYPE_DISCOVER == 1 && DHCPOPT_TYPE_OFFER == 2 && DHCPOPT_TYPE_ACK == 5 && DHCPOPT_TYPE_NAK == 6 && DHCPOPT_TYPE_INFORM == 8);
+    CHECK(strcmp(dhcpopt_code_name(51), "IP address lease time") == 0 && strcmp(dhcpopt_code_name(1), "subnet mask") == 0);
+    CHECK(strcmp(dhcpopt_code_name(0), "") == 0 && strcmp(dhcpopt_code_name(63), "") == 0 && strcmp(dhcpopt_code_name(255), "") == 0);
+    CHECK(strcmp(dhcpopt_kind_name(DHCPOPT_KIND_NONE), "") == 0 && strcmp(dhcpopt_kind_name(DHCPOPT_KIND_OPAQUE), "opaque") == 0);
+    CHECK(strcmp(dhcpopt_kind_name(DHCPOPT_KIND_ADDRESS_PAIRS), "address pairs") == 0 && strcmp(dhcpopt_kind_name(UINT32_MAX), "") == 0);
+    CHECK(strcmp(dhcpopt_refusal_name(DHCPOPT_NOT_REFUSED), "") == 0 && strcmp(dhcpopt_refusal_name(UINT32_MAX), "") == 0);
+    CHECK(strcmp(dhcpopt_refusal_name(5), "no end") == 0 && strcmp(dhcpopt_refusal_name(22), "no way back") == 0);
+    /* A code has a name exactly where the lookup, every code known, does not call it unknown. */
+    for (unsigned c = 1; c < 255; c++) {
+        size_t n = make("", 0, "", 0, "", 0);
+        message[n++] = (uint8_t)c;
+        message[n++] = c == 52;
+        if (c == 52)
+            message[n++] = 1;
+        message[n++] = 255;
+        message[DHCPOPT_FILE_OFFSET] = 255;
+        dhcpopt_answer a = dhcpopt_lookup_known(message, n, dhcpopt_known_all(), (uint8_t)c);
+        CHECK(a.status != DHCPOPT_STATUS_REFUSED && a.status != DHCPOPT_STATUS_ABSENT);
+        CHECK((dhcpopt_code_name((uint8_t)c)[0] != 0) == (a.status != DHCPOPT_STATUS_UNKNOWN));
+    }
+}
+
+/* The records of the helpers, one of each, 53 bytes in all. */
+static int put_all(dhcpopt_sheet *s)
+{
+    static const uint32_t routers[2] = {0xC0000201, 0xFFFEFD80};
+    int put = dhcpopt_put_u8(s, DHCPOPT_CODE_MESSAGE_TYPE, DHCPOPT_TYPE_OFFER);
+    put += dhcpopt_put_u16(s, DHCPOPT_CODE_INTERFACE_MTU, 0x05DC);
+    put += dhcpopt_put_u32(s, DHCPOPT_CODE_TIME_OFFSET, (uint32_t)-3600);
+    put += dhcpopt_put_address(s, DHCPOPT_CODE_SUBNET_MASK, 0xFFFFFF00);
+    put += dhcpopt_put_addresses(s, DHCPOPT_CODE_ROUTER, routers, 2);
+    put += dhcpopt_put_text(s, DHCPOPT_CODE_HOST_NAME, "meter");
+    put += dhcpopt_put(s, 224, NULL, 0);
+    put += dhcpopt_put_addresses(s, DHCPOPT_CODE_MOBILE_IP_HOME_AGENT, NULL, 0);
+    put += dhcpopt_put(s, 225, "\x00\xff", 2);
+    return put;
+}
+
+static void sheets(void)
+{
+    static const uint8_t wanted[] = {53, 0, 1, 2, 26, 0, 2, 5, 220, 2, 0, 4, 255, 255, 241, 240, 1, 0, 4, 255, 255, 255, 0,
+                                     3, 0, 8, 192, 0, 2, 1, 255, 254, 253, 128, 12, 0, 5, 'm', 'e', 't', 'e', 'r',
+                                     224, 0, 0, 68, 0, 0, 225, 0, 2, 0, 255};
+    static const size_t ends[] = {0, 4, 9, 16, 23, 34, 42, 45, 48, 53};
+    uint8_t bytes[60];
+    /* With every room: the records that fit before the first that does not, and no byte behind them. */
+    for (size_t room = 0; room <= sizeof bytes; room++) {
+        int fit = 0;
+        while (fit < 9 && ends[fit + 1] <= room)
+            fit++;
+        memset(bytes, 238, sizeof bytes);
+        dhcpopt_sheet s = dhcpopt_sheet_begin(bytes, room);
+        CHECK(put_all(&s) == fit && s.size == ends[fit] && s.full == (fit < 9) && s.room == room && s.bytes == bytes);
+        CHECK(memcmp(bytes, wanted, s.size) == 0);
+        for (size_t i = s.size; i < sizeof bytes; i++)
+            CHECK(bytes[i] == 238);
+    }
+    /* Lengths at which a bound that is added up would wrap, and one over what two bytes of length say. */
+    static uint8_t large[70000], data[65536];
+    dhcpopt_sheet s = dhcpopt_sheet_begin(large, sizeof large);
+    CHECK(dhcpopt_put(&s, 43, data, 65535) == 1 && s.size == 65538 && large[1] == 255 && large[2] == 255);
+    s = dhcpopt_sheet_begin(large, sizeof large);
+    CHECK(dhcpopt_put(&s, 43, data, 65536) == 0 && s.size == 0 && s.full == 1);
+    CHECK(dhcpopt_put_u8(&s, 53, 2) == 0 && s.size == 0); /* nothing more is put */
+    s = dhcpopt_sheet_begin(large, sizeof large);
+    CHECK(dhcpopt_put(&s, 43, data, SIZE_MAX) == 0 && s.size == 0 && s.full == 1);
+    static const uint32_t none[1] = {0};
+    s = dhcpopt_sheet_begin(large, sizeof large);
+    CHECK(dhcpopt_put_addresses(&s, 3, none, SIZE_MAX / 4 + 1) == 0 && s.size == 0 && s.full == 1); /* four times that is 0 */
+    s = dhcpopt_sheet_begin(large, sizeof large);
+    CHECK(dhcpopt_put_addresses(&s, 3, none, 16384) == 0 && s.size == 0 && s.full == 1);
+    s = dhcpopt_sheet_begin(large, 3);
+    s.size = 4; /* a size past the room, which no helper makes */
+    CHECK(dhcpopt_put(&s, 43, NULL, 0) == 0 && s.size == 4 && s.full == 1);
+
+    /* What was put is stepped over, and every cut of it ends at the record that is cut. */
+    s = dhcpopt_sheet_begin(bytes, sizeof bytes);
+    CHECK(put_all(&s) == 9);
+    for (size_t size = 0; size <= s.size; size++) {
+        size_t i = 0;
+        dhcpopt_record r = dhcpopt_record_step(bytes, size, 0);
+        for (; r.given; r = dhcpopt_record_step(bytes, size, r.next), i++)
+            CHECK(i < 9 && r.tag == bytes[ends[i]] && r.start == ends[i] + 3 && r.next == ends[i + 1] && r.length == r.next - r.start);
+        CHECK(r.given == 0 && r.tag == 0 && r.start == 0 && r.length == 0 && r.next == ends[i] && (i == 9 || ends[i + 1] > size));
+    }
+    CHECK(dhcpopt_record_step(bytes, 3, 4).given == 0 && dhcpopt_record_step(bytes, 3, SIZE_MAX).next == SIZE_MAX);
+
+    /* The writer takes what the helpers put. */
+    dhcpopt_wrote w = dhcpopt_write(bytes, s.size, message, 300, DHCPOPT_OVERLOAD_NONE);
+    CHECK(w.refusal == DHCPOPT_NOT_REFUSED && w.plan == DHCPOPT_OVERLOAD_NONE);
+    dhcpopt_codes c = dhcpopt_present(message, 300);
+    for (unsigned code = 0; code < 256; code++) {
+        int there = code == 53 || code == 26 || code == 2 || code == 1 || code == 3 || code == 12 || code == 224 || code == 68 || code == 225;
+        CHECK(dhcpopt_has(c, (uint8_t)code) == there);
+    }
+    c = dhcpopt_present(message, 239);
+    CHECK(c.refusal == DHCPOPT_REFUSED_TOO_SHORT && dhcpopt_has(c, 53) == 0);
+}
+
+static void address_pairs(void)
+{
+    static const uint8_t list[20] = {192, 0, 2, 1, 255, 255, 255, 0, 10, 0, 0, 1, 255, 0, 0, 0, 7, 7, 7, 7};
+    for (size_t size = 0; size <= sizeof list; size++) {
+        size_t i = 0;
+        dhcpopt_address_pair p = dhcpopt_address_pair_step(list, size, 0);
+        for (; p.given; p = dhcpopt_address_pair_step(list, size, p.next), i++) {
+            CHECK(p.given == 1 && p.next == 8 * (i + 1));
+            CHECK(i == 0 ? p.first == 0xC0000201 && p.second == 0xFFFFFF00 : p.first == 0x0A000001 && p.second == 0xFF000000);
+        }
+        CHECK(p.given == 0 && p.first == 0 && p.second == 0 && p.next == 8 * i && i == size / 8);
+    }
+    CHECK(dhcpopt_address_pair_step(list, 8, SIZE_MAX - 2).given == 0);
+}
+
 int main(void)
 {
     lookup();
@@ -435,7 +555,10 @@ int main(void)
     pieces();
     parts();
     texts();
+    names();
+    sheets();
     address_step();
+    address_pairs();
     present();
     indexed();
     records();

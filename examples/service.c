@@ -19,18 +19,16 @@
 
 enum { DONE = 0, REFUSED = 1, FAILED = 2 };
 
-enum { TIME_OFFSET = 2, ROUTER = 3, HOST_NAME = 12, DOMAIN_NAME = 15, LEASE_TIME = 51, TFTP_SERVER_NAME = 66 };
-
 static const struct {
     uint8_t code;
     const char *name, *unit;
 } SETTINGS[] = {
-    {ROUTER, "router", ""},
-    {TIME_OFFSET, "clock offset", " s east of UTC"},
-    {LEASE_TIME, "lease time", " s"},
-    {TFTP_SERVER_NAME, "server name", ""},
-    {HOST_NAME, "host name", ""},
-    {DOMAIN_NAME, "domain name", ""},
+    {DHCPOPT_CODE_ROUTER, "router", ""},
+    {DHCPOPT_CODE_TIME_OFFSET, "clock offset", " s east of UTC"},
+    {DHCPOPT_CODE_LEASE_TIME, "lease time", " s"},
+    {DHCPOPT_CODE_TFTP_SERVER_NAME, "server name", ""},
+    {DHCPOPT_CODE_HOST_NAME, "host name", ""},
+    {DHCPOPT_CODE_DOMAIN_NAME, "domain name", ""},
 };
 
 static const struct {
@@ -111,7 +109,7 @@ static void tell_refusal(const char *word, uint32_t refusal, size_t place)
     if (refusal < sizeof REFUSALS / sizeof REFUSALS[0] && REFUSALS[refusal].cause != NULL)
         printf("%s %" PRIu32 " at %zu: %s; the place is %s", word, refusal, place, REFUSALS[refusal].cause, REFUSALS[refusal].place);
     else
-        printf("%s %" PRIu32 " at %zu", word, refusal, place);
+        printf("%s %" PRIu32 " at %zu: %s", word, refusal, place, dhcpopt_refusal_name(refusal));
 }
 
 static void tell_addresses(const uint8_t *list, size_t size)
@@ -124,7 +122,7 @@ static void tell_addresses(const uint8_t *list, size_t size)
     }
 }
 
-/* Any byte may stand in a text, so what is not plain is shown in hex. */
+/* Each byte of a text is 1 to 127. Control characters are among these, so what is not plain is shown in hex. */
 static void tell_text(const uint8_t *text, size_t size)
 {
     printf("\"");
@@ -143,7 +141,9 @@ static const uint8_t *bytes_of(size_t size, uint8_t code, const dhcpopt_answer *
     static uint8_t joined[DHCPOPT_LONGEST_MESSAGE];
     if (!a->several)
         return message + a->start;
-    dhcpopt_copy(message, size, code, joined, sizeof joined);
+    dhcpopt_filled copied = dhcpopt_copy(message, size, code, joined, sizeof joined);
+    if (copied.refusal != DHCPOPT_NOT_REFUSED)
+        abort(); /* the lookup was not refused, so the copy is not */
     return joined;
 }
 

@@ -11,12 +11,9 @@ import subprocess
 import sys
 from pathlib import Path
 
-from reader import FIELDS, Option, Piece, Refused, join, read, row_of
+from reader import EVERY, FIELDS, Option, Piece, Refused, found, join, plain, read, refusal
 
 ROOT = Path(__file__).resolve().parent.parent
-KINDS = "address addresses pairs flag octet number16 numbers16 unsigned32 signed32 text opaque".split()
-NUMBERS = {"address", "flag", "octet", "number16", "unsigned32", "signed32"}
-ALL = (1 << 256) - 1
 
 
 class Answer(ctypes.Structure):
@@ -41,40 +38,6 @@ def library(folder):
 
 
 # ---- the rules
-
-
-def refusal(number, place):
-    return dict(status=2, refusal=number, place=place)
-
-
-def found(known, code, option):
-    """What is answered of an option."""
-    first, data = option.first, option.data
-    a = dict(field=1 + list(FIELDS).index(first.field), offset=first.offset, start=first.start)
-    if option.pieces > 1:
-        a |= dict(several=1, whole=len(data))
-    row = row_of(code) if known >> code & 1 else None
-    if not row:
-        return a | dict(status=1, length=len(data))
-    kind, _, right_length, right = row
-    if not right_length(code, len(data)):
-        return a | dict(status=5, refusal=8, place=first.at)
-    if right and not right(code, data):
-        return a | dict(status=5, refusal=9, place=first.at)
-    a["kind"] = 1 + KINDS.index(kind)
-    if kind in NUMBERS:
-        return a | dict(status=3, number=int.from_bytes(data, "big", signed=kind == "signed32"))
-    return a | dict(status=4, length=len(data.rstrip(b"\0")) if kind == "text" else len(data))
-
-
-def plain(m, known, code):
-    if code in (0, 255):
-        return refusal(10, 0)
-    try:
-        options = join(read(m))
-    except Refused as fault:
-        return refusal(*fault.args)
-    return found(known, code, options[code]) if code in options else {}
 
 
 def head(m, count):
@@ -199,7 +162,7 @@ class Check:
         fresh = self.build(m, 256)
         codes = {0, 255, 52, 53, *(r.choice(m[44:] or b"\1") for _ in range(6)), r.randrange(256)}
         for code in codes:
-            known = r.choice((ALL, 0, r.getrandbits(256)))
+            known = r.choice((EVERY, 0, r.getrandbits(256)))
             if fresh:
                 self.fresh(m, fresh, known, code)
             self.lookup(m, before, known, code)
@@ -223,4 +186,5 @@ def main():
     print(f"index: {len(files)} files and {cases} messages, {check.compared} answers agree")
 
 
-main()
+if __name__ == "__main__":
+    main()

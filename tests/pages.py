@@ -1,7 +1,8 @@
 #!/usr/bin/env python3
 """Holds what a check can hold of the pages: the tables of docs/RULES.md and docs/C-API.md against the table of tests/reader.py and against the
-header, the keys of the rules against the definitions that name them, the requests that landed against their notes, the decisions against
-those who cite them, and counts in prose against what is counted. The last line is 'N checked, M wrong'.
+header, the names of the header against these tables and the pages, the keys of the rules against the definitions that name them, the requests that
+landed against their notes, the decisions against those who cite them, and counts in prose against what is counted. The last line is
+'N checked, M wrong'.
 """
 import re
 import shutil
@@ -15,10 +16,10 @@ sys.path.insert(0, str(ROOT / "tests"))
 from reader import row_of  # noqa: E402
 
 KINDS = {"address": "ADDRESS", "addresses": "ADDRESS_LIST", "pairs": "ADDRESS_PAIRS", "flag": "FLAG", "octet": "BYTE", "number16": "UINT16",
-         "numbers16": "UINT16_LIST", "unsigned32": "UINT32", "signed32": "INT32", "text": "TEXT", "opaque": "OPAQUE"}
+         "numbers16": "UINT16_LIST", "unsigned32": "UINT32", "signed32": "INT32", "text": "TEXT", "opaque": "OPAQUE", "relay": "RELAY"}
 IN_WORDS = {"one address": "ADDRESS", "address list": "ADDRESS_LIST", "address pairs": "ADDRESS_PAIRS", "flag": "FLAG", "one byte": "BYTE",
             "16-bit number": "UINT16", "list of 16-bit numbers": "UINT16_LIST", "unsigned 32-bit number": "UINT32",
-            "signed 32-bit number": "INT32", "text": "TEXT", "opaque": "OPAQUE"}
+            "signed 32-bit number": "INT32", "text": "TEXT", "opaque": "OPAQUE", "relay information": "RELAY"}
 checked = 0
 wrong = []
 
@@ -62,6 +63,13 @@ def length_right(rule, n):
     return n == int(rule)
 
 
+def filled(data):
+    """Whether codes, lengths and so many bytes end where the data ends."""
+    while len(data) > 1 and data[1] + 2 <= len(data):
+        data = data[2 + data[1]:]
+    return data == b""
+
+
 def value_right(rule, kind, data):
     if rule.startswith("any"):
         return True
@@ -70,6 +78,8 @@ def value_right(rule, kind, data):
     if kind == "TEXT":
         first, last = map(int, re.match(r"each byte (\d+) to (\d+)", rule).groups())
         return all(first <= byte <= last for byte in data.rstrip(b"\0"))
+    if kind == "RELAY":
+        return rule.startswith("sub-options fill it") and filled(data)
     numbers = [int.from_bytes(data[i:i + 2], "big") for i in range(0, len(data), 2)] if kind.startswith("UINT16") else list(data)
     if kind == "UINT16_LIST":
         return all(n >= 68 for n in numbers) and numbers == sorted(numbers)
@@ -93,6 +103,8 @@ def samples(kind):
         return [first + bytes([1] * 4) + second + bytes(4) for first in (bytes(4), b"\0\0\0\1") for second in (bytes(4), b"\1\0\0\0")]
     if kind in ("TEXT", "OPAQUE"):
         return [bytes(data) for v in range(256) for data in ([v, 97], [97, v, 98], [97, v], [97, v, 0, 0])]
+    if kind == "RELAY":
+        return [bytes(data) for v in range(256) for data in ([v, 0], [0, v], [1, v, 9], [1, 1, v, v], [1, 0, v], [v, 1, 7, 2, 0])]
     return []
 
 
@@ -152,8 +164,41 @@ def of_api(named):
     header = page("include/dhcpopt.h")
     for number, name, *_ in rows(text, "No.", "`DHCPOPT_REFUSED_`", "When", "Place", "Calls"):
         check(re.search(rf"DHCPOPT_REFUSED_{name.strip('`')} = {number},? ", header), f"docs/C-API.md: refusal {number}")
+    numbers = {int(number) for number, *_ in rows(text, "No.", "`DHCPOPT_REFUSED_`", "When", "Place", "Calls")}
+    check(numbers == {int(n) for n in re.findall(r"DHCPOPT_REFUSED_\w+ = (\d+)", header)}, "docs/C-API.md: a row for each refusal of the header")
     statuses = [(int(number), name.strip("`")) for number, name, _ in rows(text, "Status", "`DHCPOPT_STATUS_`", "Members")]
     check(statuses == sorted((int(n), name) for name, n in re.findall(r"DHCPOPT_STATUS_(\w+) = (\d)", header)), "docs/C-API.md: the statuses")
+
+
+def of_header(named):
+    """The header's list of codes is that of the tables; its names of kinds and refusals are those of its enums, in small letters; each call has
+    its place on the page for C; and no page names what the header does not have."""
+    header = page("include/dhcpopt.h")
+    listed = [(int(code), option) for code, option in re.findall(r'X\(\w+, (\d+), "([^"]*)"\)', header)]
+    check(listed == sorted((code, name) for code, (name, _) in named.items()), "include/dhcpopt.h: DHCPOPT_CODES and docs/RULES.md differ")
+    for prefix in ("KIND", "REFUSED"):
+        of_enum = re.findall(rf"^    DHCPOPT_{prefix}_(\w+) = [1-9]", header, flags=re.M)
+        spoken = dict(re.findall(rf'case DHCPOPT_{prefix}_(\w+):\s+return "([^"]*)";', header))
+        check(sorted(of_enum) == sorted(spoken), f"include/dhcpopt.h: a name for each DHCPOPT_{prefix}_*")
+        for name, words in spoken.items():
+            check(words == name.lower().replace("_", " "), f"include/dhcpopt.h: the name of DHCPOPT_{prefix}_{name}")
+    major, minor = (int(re.search(rf"DHCPOPT_VERSION_{part} (\d+)", header).group(1)) for part in ("MAJOR", "MINOR"))
+    api = page("docs/C-API.md")
+    check(f"`DHCPOPT_VERSION` is {100 * major + minor} for {major}.{minor}." in api, f"docs/C-API.md: the version is {major}.{minor}")
+    calls, helpers = calls_of(header)
+    for name in calls + helpers:
+        check(re.search(rf"\b{name}\b", api), f"docs/C-API.md: {name} is not there")
+    words = set(re.findall(r"\b(?:dhcpopt|DHCPOPT)_\w+", header)) | {"DHCPOPT_CODE_" + name for name in re.findall(r"X\((\w+), \d+,", header)}
+    crates = {path.name for path in (ROOT / "crates").iterdir()}
+    for name in ["README.md", "docs/C-API.md", "docs/LISTING.md", "CONTRIBUTING.md"]:
+        for word in set(re.findall(r"\b(?:dhcpopt|DHCPOPT)_\w+", page(name))):
+            check(word in words or word in crates or word.endswith("_") and any(w.startswith(word) for w in words), f"{name}: {word} is not in the header")
+
+
+def calls_of(header):
+    """The names of the calls, and those of the functions that the header itself has."""
+    return (re.findall(r"^DHCPOPT_CALL dhcpopt_\w+ (dhcpopt_\w+)\(", header, flags=re.M),
+            re.findall(r"^(?:DHCPOPT_\w+(?:\([\d, ]+\))? )?static inline [\w ]+?\*?(dhcpopt_\w+)\(", header, flags=re.M))
 
 
 def keys(rules):
@@ -195,6 +240,18 @@ def decisions():
             check(int(n) in numbers, f"{name}: decision {n} is cited and not there")
 
 
+NUMBERS = ["none", "one", "two", "three", "four", "five", "six", "seven", "eight", "nine", "ten", "eleven", "twelve", "thirteen", "fourteen", "fifteen",
+           "sixteen", "seventeen", "eighteen", "nineteen", "twenty"] + ["twenty-" + n for n in "one two three four five six seven eight nine".split()]
+
+
+def depends_on(crate):
+    """What crates.txt says that a crate uses, our own crates alone."""
+    for line in page("crates.txt").split("\n"):
+        if line.startswith(crate + ":"):
+            return [name for name in line.split(":")[1].split() if (ROOT / "crates" / name).is_dir()]
+    return []
+
+
 def counts():
     """Counts in prose, wherever they stand, are those of the tree."""
     printed = page("crates/vectors/stdout").split("\nextra\n")[0]
@@ -203,11 +260,18 @@ def counts():
     refused = len(re.findall(r"(?:^|\n-\n)refused ", printed))
     sheets = len(re.findall(r"^-$", page("crates/sheets/stdout"), flags=re.M))
     held = [(r"(\d[\d,]*) (?:test messages|cases, and in the lines)", cases), (r"(\d[\d,]*) captures", captures), (r"(\d[\d,]*) hand-made messages", cases - captures),
-            (r"(\d[\d,]*) refused vectors", refused), (r"(\d[\d,]*) (?:test )?sheets\b(?!\s+of)", sheets)]
+            (r"(\d[\d,]*) refused vectors", refused), (r"(\d[\d,]*) (?:test )?sheets\b(?!\s+of)", sheets),
+            (r"(\d[\d,]*) (?:must-fail )?edits\b", len(list((ROOT / "crates").glob("*/must-fail/*.edit")))),
+            (r"(\d[\d,]*) crates\b(?! proved)", len(list((ROOT / "crates").iterdir()))),
+            (r"rt: ok, (\d+) crates proved", 1 + len(depends_on("list_options"))),
+            (r"(?:declares the|makes all) ([\w-]+) calls", len(calls_of(page("include/dhcpopt.h"))[0])),
+            (r"(\w+) programs' input", sum("libc" in line.split(":")[1].split() and (ROOT / "crates" / line.split(":")[0] / "stdout").exists()
+                                          for line in page("crates.txt").split("\n") if ":" in line))]
     for path in [ROOT / "README.md", ROOT / "CONTRIBUTING.md", *sorted((ROOT / "docs").glob("*.md")), *sorted((ROOT / "tests").rglob("README.md"))]:
         for pattern, number in held:
             for found in re.findall(pattern, path.read_text()):
-                check(int(found.replace(",", "")) == number, f"{path.relative_to(ROOT)}: {found}, counted {number} ({pattern})")
+                told = NUMBERS.index(found) if found in NUMBERS else int(found.replace(",", "")) if found[0].isdigit() else None
+                check(told == number, f"{path.relative_to(ROOT)}: {found}, counted {number} ({pattern})")
 
 
 def instructions():
@@ -225,6 +289,7 @@ def toolchain():
 
 rules_text, names = of_rules()
 of_api(names)
+of_header(names)
 keys(rules_text)
 landed(rules_text)
 decisions()

@@ -1,14 +1,29 @@
-"""A reader of messages of its own, written from document 01 and requests 01 to 03 of document 02 alone."""
+"""A reader of messages of its own, written from document 01 and requests 01 to 03, 09 and 10 of document 02 alone."""
 
 from typing import NamedTuple
 
-# The kinds as document 01 lists them: name, codes, which lengths are right, which data is right.
+from codes import total
+
+
+def split(data):
+    """The sub-options of an option 82 as (code, start, data), up to the first that runs past; and the place of that one, or None."""
+    at, met = 0, []
+    while at < len(data):
+        head = data[at:at + 2]
+        if len(head) < 2 or at + 2 + head[1] > len(data):
+            return met, at
+        met.append((head[0], at + 2, data[at + 2:at + 2 + head[1]]))
+        at += 2 + head[1]
+    return met, None
+
+
+# The kinds as document 01 and request 09 list them, without the rows that request 10 retired: name, codes, which lengths are right, which data is right.
 KINDS = [
     ("address", "1 16 28 32 50 54", lambda c, n: n == 4, None),
-    ("addresses", "3-11 41 42 44 45 48 49 65 69-76 68", lambda c, n: n % 4 == 0 and (n > 0 or c == 68), None),
+    ("addresses", "3-7 9 11 41 42 44 45 48 49 65 69-76 68", lambda c, n: n % 4 == 0 and (n > 0 or c == 68), None),
     ("pairs", "21 33", lambda c, n: n % 8 == 0 and n > 0,
      lambda c, d: c == 21 or all(any(d[i:i + 4]) for i in range(0, len(d), 8))),
-    ("flag", "19 20 27 29 30 31 34 36 39", lambda c, n: n == 1, lambda c, d: d[0] < 2),
+    ("flag", "19 20 27 29 30 31 36 39", lambda c, n: n == 1, lambda c, d: d[0] < 2),
     ("octet", "23 37", lambda c, n: n == 1, lambda c, d: d[0] > 0),
     ("octet", "46", lambda c, n: n == 1, lambda c, d: d[0] in (1, 2, 4, 8)),
     ("octet", "52", lambda c, n: n == 1, lambda c, d: 0 < d[0] < 4),
@@ -23,6 +38,7 @@ KINDS = [
     ("text", "12 14 15 17 18 40 56 64 66 67", lambda c, n: n > 0, lambda c, d: all(0 < byte < 128 for byte in d.rstrip(b"\0"))),
     ("opaque", "43 47 55 60", lambda c, n: n > 0, None),
     ("opaque", "61", lambda c, n: n > 1, None),
+    ("relay", "82", lambda c, n: n > 1, lambda c, d: split(d)[1] is None),
 ]
 
 
@@ -32,6 +48,16 @@ def row_of(code):
             first, _, last = word.partition("-")
             if int(first) <= code <= int(last or first):
                 return row
+    return None
+
+
+def fault(code, data):
+    """The number of the rule of its row that the data of a code breaks, or None: 8 for the length, 9 for the data. Sub-options that do not fill it are an 8."""
+    row = row_of(code)
+    if row and not row[2](code, len(data)):
+        return 8
+    if row and row[3] and not row[3](code, data):
+        return 8 if code == 82 else 9
     return None
 
 
@@ -112,3 +138,51 @@ def join(met):
 def records(options):
     """A record for every option but 52."""
     return b"".join(bytes([code]) + len(option.data).to_bytes(2, "big") + option.data for code, option in options.items() if code != 52)
+
+
+# ---- Answers as C has them: a dictionary of the members that are not 0
+
+EVERY = (1 << 256) - 1  # every code known: code c at bit c
+MEMBERS = "status kind refusal field number place offset start length whole several".split()
+NAMES = "address addresses pairs flag octet number16 numbers16 unsigned32 signed32 text opaque relay".split()
+NUMBERS = {"address", "flag", "octet", "number16", "unsigned32", "signed32"}
+
+
+def refusal(number, place):
+    return dict(status=2, refusal=number, place=place)
+
+
+def found(known, code, option):
+    """What is answered of an option."""
+    first, data = option.first, option.data
+    a = dict(field=1 + list(FIELDS).index(first.field), offset=first.offset, start=first.start)
+    if option.pieces > 1:
+        a |= dict(several=1, whole=len(data))
+    row = row_of(code) if known >> code & 1 else None
+    if not row:
+        return a | dict(status=1, length=len(data))
+    if fault(code, data):
+        return a | dict(status=5, refusal=fault(code, data), place=first.at)
+    kind = row[0]
+    a["kind"] = 1 + NAMES.index(kind)
+    if kind in NUMBERS:
+        return a | dict(status=3, number=int.from_bytes(data, "big", signed=kind == "signed32"))
+    return a | dict(status=4, length=len(data.rstrip(b"\0")) if kind == "text" else len(data))
+
+
+def plain(m, known, code):
+    if code in (0, 255):
+        return refusal(10, 0)
+    try:
+        options = join(read(m))
+    except Refused as refused:
+        return refusal(*refused.args)
+    return found(known, code, options[code]) if code in options else {}
+
+
+def code_line(m, code):
+    """What the program `sheets` prints of a code in an accepted message: every member of the lookup's answer, every code known, and the copy."""
+    answer, option = plain(m, EVERY, code), join(read(m)).get(code)
+    data = option.data if option else b""
+    copy = f"copy {0 if option else 11} {len(data)} {total(data)}"
+    return " ".join(["code", str(code)] + [str(answer.get(name, 0)) for name in MEMBERS] + [copy])

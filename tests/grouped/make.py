@@ -21,10 +21,10 @@ def record(tag, data=""):
 
 
 def group(name, *members):
-    """A group with a name in ASCII, in hex."""
+    """A group with a name, a byte for each character, in hex."""
     inside = "".join(members)
     size = 1 + len(name) + len(bytes.fromhex(inside))
-    return f"00 {size:04X} {len(name):02X} {name.encode().hex()} {inside} "
+    return f"00 {size:04X} {len(name):02X} {name.encode('latin-1').hex()} {inside} "
 
 
 def size(text):
@@ -40,6 +40,10 @@ ZEROS = record(43, "00 00 00 00")  # data that would read as a group: 7 bytes
 
 # A file as that of docs/C-API.md: what all have, what meters, scales and printers have, and a nested group.
 CLINIC = group("", LEASE, group("meter", record(60, "6D31"), group("", EMPTY)), group("scale", record(60, "73")), TYPE, group("printer", NAME))
+
+# Classes that are near to each other: the middle, the last byte, a high bit, a zero or a blank behind, a byte less, a zero within.
+NEAR_NAMES = ["meter", "meder", "metes", "met\xe5r", "\xedeter", "mete\xf2", "meter\0", "meter\0\0", "meter ", " meter", "mete", "met\0r", "METER"]
+NEAR_FILE = group("", TYPE, *(group(name, record(200 + i, f"{i:02X}")) for i, name in enumerate(NEAR_NAMES)))
 
 # --- Choosing ----------------------------------------------------------------------------------------------------------
 # Reason, file, class, room, what is expected: the bytes given, or a refusal.
@@ -78,6 +82,20 @@ CHOOSING = [
     ("a name of 255 bytes, the last differs", group("n" * 255, TYPE), "n" * 254 + "m", 64, ""),
     ("a class of 256 bytes", group("", TYPE, group("n" * 255, LEASE)), "n" * 256, 64, TYPE),
     ("a name with a zero", "00 0007 02 61 00 35 0001 05", "a\0", 64, TYPE),
+    # Names that differ from the class in one thing only: NEAR_NAMES has a group for each, and one for the class itself.
+    *((f"near names: {class_!r}", NEAR_FILE, class_, 64, TYPE + record(200 + i, f"{i:02X}")) for i, class_ in enumerate(NEAR_NAMES)),
+    ("near names: none of them", NEAR_FILE, "metre", 64, TYPE),
+    ("a high bit in a name of one byte", group("", TYPE, group("\x80", LEASE)), "\0", 64, TYPE),
+    ("a name of a zero, and no class", group("", TYPE, group("\0", LEASE)), "", 64, TYPE),
+    ("a name of 255 bytes, the middle differs", group("n" * 255, TYPE), "n" * 127 + "m" + "n" * 127, 64, ""),
+    ("a name of 255 bytes, a zero for the last", group("n" * 255, TYPE), "n" * 254 + "\0", 64, ""),
+    ("a name of 255 bytes, without the last", group("n" * 255, TYPE), "n" * 254, 64, ""),
+    # The name of the fourth group counts as any other.
+    ("four deep, the fourth is the class's", group("", group("", group("", TYPE, group("a", LEASE)))), "a", 64, TYPE + LEASE),
+    ("four deep, the fourth is another class's", group("", group("", group("", TYPE, group("b", LEASE)))), "a", 64, TYPE),
+    ("four deep, the third is another class's", group("", group("", TYPE, group("b", group("a", LEASE)), MASK)), "a", 64, TYPE + MASK),
+    ("four deep, the outermost is another class's", group("b", group("a", group("a", group("a", LEASE)))), "a", 64, ""),
+    ("four deep, two of the fourth", group("a", group("", group("a", group("b", LEASE), group("a", MASK), TYPE))), "a", 64, MASK + TYPE),
     ("a record of 1,025 bytes is chosen", group("", record(43, ramp(1025))), "a", 2000, record(43, ramp(1025))),
     ("the longest file: one record of 4,093 bytes", group("", record(43, ramp(4093))), "a", 4096, record(43, ramp(4093))),
     ("the longest file, one byte too little", group("", record(43, ramp(4093))), "a", 4095, "refused 11 4095"),
@@ -119,6 +137,13 @@ FAULTS = [
     ("21: a fifth depth, named", group("a", group("b", group("c", group("d", group("e", TYPE))))), "refused 21 20"),
     ("21: at the group's own tag, whatever is in it", group("", group("", group("", group("", group("", "FF 0000"))))), "refused 21 16"),
     ("20 before 21: a fifth depth without n", group("", group("", group("", group("", "00 0000")))), "refused 20 16"),
+    # A fifth group that does not fit: 20 and 21 apply at one tag, and 20 is given.
+    ("20 before 21: a fifth depth past its group", group("", group("", group("", group("", "00 0002 00")))), "refused 20 16"),
+    ("20 before 21: a fifth depth, its head past its group", group("", group("", group("", group("", "00 00")))), "refused 20 16"),
+    ("20 before 21: a fifth depth, its tag alone", group("", group("", group("", group("", "00")))), "refused 20 16"),
+    ("20 before 21: a fifth depth, a name past it", group("", group("", group("", group("", "00 0002 02 61")))), "refused 20 16"),
+    ("20 before 21: behind a record", group("a", group("b", group("c", group("d", TYPE, "00 0001 01")))), "refused 20 24"),
+    ("21 before a later 20: in the fifth group itself", group("", group("", group("", group("", group("", "35 00"))))), "refused 21 16"),
     ("21 before a later 10", group("", group("", group("", group("", group("")))), record(52, "01")), "refused 21 16"),
     ("10 before a later 21", group("", record(52, "01"), group("", group("", group("", group(""))))), "refused 10 4"),
     ("in a group that is not entered: 10", group("", group("zzz", TYPE, record(255))), "refused 10 15"),
@@ -216,7 +241,7 @@ def lines(room, expected):
 def main():
     given, printed, count = b"", [], 0
     for reason, which, class_, room, file, expected in all_cases():
-        bytes_, name = bytes.fromhex(file), class_.encode()
+        bytes_, name = bytes.fromhex(file), class_.encode("latin-1")
         given += bytes((which,)) + room.to_bytes(2, "big") + bytes((FILL,)) + len(name).to_bytes(2, "big") + len(bytes_).to_bytes(2, "big") + name + bytes_
         printed += lines(room, expected) + ["-"]
         count += 1

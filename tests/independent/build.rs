@@ -5,22 +5,24 @@ use std::fmt::Write;
 use std::{env, fs, path::Path};
 
 include!("build/variants.rs");
+include!("build/relay_variants.rs");
 
 /// The files of src/rules that are copied, each with those it is used by.
-const FILES: [(&str, &[&str]); 6] = [
+const FILES: [(&str, &[&str]); 7] = [
     ("groups.rs", &["groups.rs"]),
     ("kinds.rs", &["kinds.rs", "reading.rs", "writing.rs"]),
     ("reading.rs", &["reading.rs"]),
     ("index.rs", &["index.rs"]),
     ("writing.rs", &["writing.rs"]),
     ("vendor.rs", &["vendor.rs"]),
+    ("relay.rs", &["relay.rs"]),
 ];
 
 fn main() {
     link();
     let generated = Path::new(&env::var("OUT_DIR").unwrap()).join("variants.rs");
     fs::write(generated, variants()).unwrap();
-    for path in ["build.rs", "build/variants.rs", "src/rules"] {
+    for path in ["build.rs", "build", "src/rules"] {
         println!("cargo:rerun-if-changed={path}");
     }
 }
@@ -38,7 +40,8 @@ fn link() {
 fn variants() -> String {
     let mut text = String::new();
     let mut list = String::new();
-    for (i, variant) in VARIANTS.iter().enumerate() {
+    let all = || VARIANTS.iter().chain(RELAY_VARIANTS);
+    for (i, variant) in all().enumerate() {
         writeln!(text, "#[allow(warnings, clippy::all)]\nmod variant_{i} {{").unwrap();
         writeln!(text, "pub use independent::rules::answers;").unwrap();
         let copied = FILES.iter().find(|(file, _)| *file == variant.file).unwrap().1;
@@ -53,7 +56,7 @@ fn variants() -> String {
         writeln!(text, "}}").unwrap();
         writeln!(list, "    ({:?}, yardstick!(variant_{i})),", variant.name).unwrap();
     }
-    let count = VARIANTS.len();
+    let count = all().count();
     writeln!(text, "pub static VARIANTS: [(&str, Yardstick); {count}] = [\n{list}];").unwrap();
     text
 }

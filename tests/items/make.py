@@ -1,15 +1,19 @@
 #!/usr/bin/env python3
-"""Write crates/items/stdin (vendor information to be read, and sheets of its items to be written) and crates/items/stdout (what is to be printed for them)."""
+"""Write crates/items/stdin (vendor information and relay information to be read, and sheets of their items to be written) and crates/items/stdout (what is to be
+printed for them)."""
 
+import importlib.util
 import sys
 from pathlib import Path
 
 HERE = Path(__file__).resolve().parent
 sys.path.append(str(HERE.parent))
+sys.path.append(str(HERE))
+import relay
 from codes import total
 
 OUT = HERE.parent.parent / "crates" / "items"
-READ, WRITE = 0, 1
+READ, WRITE, READ_RELAY, WRITE_RELAY = 0, 1, 2, 3
 
 
 def spelled(text):
@@ -147,23 +151,48 @@ TOO_MUCH = [
 ]
 
 
-def lines(call, data, room, fill, expected):
+def captured():
+    """Option 82 of the captures of tests/vectors, with the sub-options as tshark shows them."""
+    spec = importlib.util.spec_from_file_location("vectors_make", HERE.parent / "vectors" / "make.py")
+    vectors = importlib.util.module_from_spec(spec)
+    spec.loader.exec_module(vectors)
+    for name, shown in vectors.RELAY.items():
+        at, given, parts = 0, "", {}
+        for code, data in shown:
+            length = len(bytes.fromhex(data))
+            parts.setdefault(code, (at + 2, length))
+            at += 2 + length
+            given += f"{code:02X} 00 {length:02X} {data} "
+        yield f"captured: {name}", vectors.sub_options(shown).hex(" "), 60, given, parts.get(1), parts.get(2)
+
+
+def named(name, part):
+    return f"{name} absent" if part is None else f"{name} {part[0]} {part[1]}"
+
+
+def lines(call, data, room, fill, expected, *ids):
     old = bytes((fill + i) % 256 for i in range(room))
     if expected.startswith("refused"):
         return [f"{expected} rest sum {total(old)}"]
     given = spelled(expected)
     assert len(given) <= room, expected
-    return [f"given {len(given)} {given.hex()} rest sum {total(old[len(given):])}"] + (["back same"] if call == WRITE else [])
+    first = [f"given {len(given)} {given.hex()} rest sum {total(old[len(given):])}"]
+    if call == READ_RELAY:
+        circuit, remote = ids
+        return first + [named("circuit", circuit), named("remote", remote)]
+    return first + (["back same"] if call != READ else [])
 
 
 def main():
     cases = [(READ, *case) for case in ENDS + CONTENT + PAST + ROOM] + [(WRITE, *case) for case in WRITTEN + FAULTS + TOO_MUCH]
+    cases += [(READ_RELAY, *case) for case in relay.CONTENT + relay.NAMED + relay.PAST + relay.ROOM + list(captured())]
+    cases += [(WRITE_RELAY, *case) for case in relay.WRITTEN + relay.FAULTS + relay.TOO_MUCH]
     assert len({(call, why) for call, why, *_ in cases}) == len(cases)
     stdin, stdout = b"", []
-    for i, (call, why, text, room, expected) in enumerate(cases):
+    for i, (call, why, text, room, expected, *ids) in enumerate(cases):
         data, fill = spelled(text), 160 + i % 90
-        stdin += bytes([call]) + room.to_bytes(2, "big") + bytes([fill]) + len(data).to_bytes(2, "big") + data
-        stdout += lines(call, data, room, fill, expected) + ["-"]
+        stdin += bytes([call]) + room.to_bytes(2, "big") + bytes([fill, 0, 0]) + len(data).to_bytes(2, "big") + data
+        stdout += lines(call, data, room, fill, expected, *ids) + ["-"]
     OUT.mkdir(exist_ok=True)
     (OUT / "stdin").write_bytes(stdin)
     (OUT / "stdout").write_text("\n".join(stdout) + "\n")

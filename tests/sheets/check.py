@@ -1,12 +1,13 @@
 #!/usr/bin/env python3
-"""Write every sheet of crates/sheets/stdin by document 01 and requests 02 and 03 anew and hold every line of crates/sheets/stdout to it."""
+"""Write every sheet of crates/sheets/stdin by document 01 and requests 02, 03 and 09 anew and hold every line of crates/sheets/stdout to it."""
 
 import sys
 from pathlib import Path
 
 HERE = Path(__file__).resolve().parent
 sys.path.append(str(HERE.parent))
-from reader import Refused, join, read, records, row_of
+import reader
+from reader import Refused, code_line, join, read, records
 
 OUT = HERE.parent.parent / "crates" / "sheets"
 
@@ -29,12 +30,7 @@ def fault(sheet, at, met):
         return 13
     if tag in met:
         return 7
-    row = row_of(tag)
-    if row and not row[2](tag, length):
-        return 8
-    if row and row[3] and not row[3](tag, data):
-        return 9
-    return None
+    return reader.fault(tag, data)
 
 
 def judge(sheet):
@@ -49,6 +45,8 @@ def judge(sheet):
         at += 3 + length
     if 1 in places and 3 in places and places[3] < places[1]:
         raise Refused(14, places[3])
+    if 82 in places and list(met)[-1] != 82:
+        raise Refused(23, places[82])
     return met
 
 
@@ -128,18 +126,19 @@ def printed(permission, old, sheet):
         return "refused {} {}\n".format(*refusal.args) + f"buffer {mixed(old)}\n-\n"
     taken, count = back(m)
     sname, file = (shown if plan & 2 else mixed)(m[44:108]), (shown if plan & 1 else mixed)(m[108:236])
+    codes = "".join(code_line(m, code) + "\n" for code in (*judge(sheet), 52, 222))
     return (f"plan {plan}\nheader {mixed(m[:44])}\nsname {sname}\nfile {file}\ncookie {shown(m[236:240])}\n"
-            f"options {shown(m[240:])}\nback {'same' if taken == sheet else 'differs'}\naccepted {count}\n-\n")
+            f"options {shown(m[240:])}\nback {'same' if taken == sheet else 'differs'}\naccepted {count}\n{codes}-\n")
 
 
 def cases(given):
     at = 0
     while at < len(given):
         permission, length, fill = given[at], int.from_bytes(given[at + 1:at + 3], "big"), given[at + 3]
-        size = int.from_bytes(given[at + 4:at + 6], "big")
-        assert at + 6 + size <= len(given)
-        yield permission, bytes((fill + i) & 255 for i in range(length)), given[at + 6:at + 6 + size]
-        at += 6 + size
+        size = int.from_bytes(given[at + 6:at + 8], "big")
+        assert given[at + 4:at + 6] == b"\0\0" and at + 8 + size <= len(given)
+        yield permission, bytes((fill + i) & 255 for i in range(length)), given[at + 8:at + 8 + size]
+        at += 8 + size
 
 
 def main():

@@ -7,7 +7,8 @@ from pathlib import Path
 
 HERE = Path(__file__).resolve().parent
 sys.path.append(str(HERE.parent))
-from codes import ADDRESS, ADDRESSES, FLAG, OPAQUE, TEXT, UNKNOWN, UNSIGNED32, ramp, total
+from codes import ADDRESS, ADDRESSES, FLAG, OPAQUE, RETIRED, TEXT, UNKNOWN, UNSIGNED32, ramp, total
+from reader import code_line
 
 OUT = HERE.parent.parent / "crates" / "sheets"
 
@@ -18,11 +19,20 @@ USED = {"plan 0": ["options"], "plan 1": ["options", "file"], "plan 2": ["option
         "plan 3": ["options", "file", "sname"]}
 
 
-def lines(length, fill, expected):
+def tags(sheet):
+    """The tags of a sheet's records, in order."""
+    at = 0
+    while at < len(sheet):
+        yield sheet[at]
+        at += 3 + int.from_bytes(sheet[at + 1:at + 3], "big")
+
+
+def lines(length, fill, sheet, expected):
     """The lines of a case.
 
     expected is 'refused N PLACE'; or 'plan P', then each field of the plan with its bytes up to END (and the number of
-    zeros behind, where it is worth writing down), then 'accepted N', the number of options in the message."""
+    zeros behind, where it is worth writing down), then 'accepted N', the number of options in the message. What the codes of the
+    records, 52 and 222 are looked up as is read from these bytes by the second reader."""
     old = bytes((fill + i) % 256 for i in range(length))
     head, *parts = expected.split(" | ")
     if head.startswith("refused"):
@@ -32,9 +42,11 @@ def lines(length, fill, expected):
     assert list(given) == USED[head], expected
     shown = [head, f"header sum {total(old[:44])}"]
     given["cookie"] = "63 82 53 63"
+    message = old[:44]
     for name, (start, end) in PLACES.items():
         shown.append(field(name, old[start:end], given.get(name)))
-    return shown + ["back same", f"accepted {count}"]
+        message += bytes.fromhex(given[name].partition(" zeros ")[0]).ljust(len(old[start:end]), b"\0") if name in given else old[start:end]
+    return shown + ["back same", f"accepted {count}"] + [code_line(message, code) for code in (*tags(sheet), 52, 222)]
 
 
 def field(name, old, given):
@@ -71,6 +83,15 @@ def pieces(tag, data, *lengths):
     return text
 
 
+def size(text):
+    return len(bytes.fromhex(text))
+
+
+def taken(records):
+    """The bytes that the options of these records take, {code: data}."""
+    return sum(size(option(code, data)) for code, data in records.items())
+
+
 def every_permission(reason, length, sheet, *expected):
     """A case for each permission: with one expectation for all of them, or one for each."""
     return [(f"{reason}, permission {p}", p, length, sheet, expected[p % len(expected)]) for p in range(4)]
@@ -85,6 +106,7 @@ MASK = "01 00 04 FF FF FF 00 "    # 1: 6 bytes
 ROUTER = "03 00 04 0A 00 00 01 "  # 3: 6 bytes
 BROKEN = "35 00 01 FF "           # 53 with a value that is wrong by any rule of a message type: 9
 DOMAIN = "0F 00 01 61 "           # 15, a text: 3 bytes
+BARE_40 = "".join(record(c, "") for c in UNKNOWN[:40])  # 40 records without data: 120 bytes
 
 NAME_IN_FILE = "plan 1 | options 34 01 01 FF zeros 0 | file 0C 02 61 62 FF zeros 123 | accepted 2"
 NAME_IN_SNAME = "plan 2 | options 34 01 02 FF zeros 0 | sname 0C 02 61 62 FF zeros 59 | accepted 2"
@@ -391,6 +413,12 @@ FAULTS = [
     ("7: 63 and 64 are not 127 and 128", 0, 300, "3F 00 00 40 00 01 61 7F 00 00 80 00 00 BF 00 00 C0 00 00 FE 00 00 3E 00 00",
      "plan 0 | options 3F 00 40 01 61 7F 00 80 00 BF 00 C0 00 FE 00 3E 00 FF | accepted 8"),
     ("7: 64 again", 0, 300, "40 00 01 61 80 00 00 C0 00 00 40 00 01 61", "refused 7 10"),
+    # The tag that is met again stands far behind: 40 records of 3 bytes between.
+    ("7: behind 40 others", 3, 600, TYPE + BARE_40 + TYPE, "refused 7 124"),
+    ("7: a code without a row behind 40 others", 3, 600, BARE + BARE_40 + BARE, "refused 7 123"),
+    ("7: the 20th of 40 behind the others", 3, 600, BARE_40 + TYPE + record(UNKNOWN[19], "01"), "refused 7 124"),
+    ("no 7: 41 tags", 0, 330, BARE_40 + TYPE,
+     "plan 0 | options " + "".join(option(c, "") for c in UNKNOWN[:40]) + "35 01 05 FF zeros 6 | accepted 41"),
     ("7: 128 again", 0, 300, "80 00 00 40 00 01 61 80 00 00", "refused 7 7"),
     ("7 before 8: length 2", 0, 300, TYPE + "35 00 02 05 05", "refused 7 4"),
     ("7 before 8: length 0", 0, 300, TYPE + "35 00 00", "refused 7 4"),
@@ -657,6 +685,9 @@ LONG_RECORDS = [
     ("a text of 300 bytes, 128 first", 3, 1472, record(12, "80" + "61" * 299), "refused 9 0"),
     ("61 of 256 bytes", 0, 501, record(61, ramp(256)), "plan 0 | options " + pieces(61, ramp(256), 255, 1) + "FF zeros 0 | accepted 2"),
     ("68 of 256 bytes", 0, 501, record(68, ramp(256)), "plan 0 | options " + pieces(68, ramp(256), 255, 1) + "FF zeros 0 | accepted 2"),
+    ("10: 34 of 256 bytes", 0, 501, record(34, ramp(256)), "plan 0 | options " + pieces(34, ramp(256), 255, 1) + "FF zeros 0 | accepted 2"),
+    ("10: 8 of 1,024 bytes", 0, 1275, record(8, ramp(1024)), "plan 0 | options " + pieces(8, ramp(1024), 255, 255, 255, 255, 4) + "FF zeros 0 | accepted 5"),
+    ("10: 10 of 1,025 bytes", 3, 1472, record(10, ramp(1025)), "refused 13 0"),
     ("8 at a long record behind others", 3, 1472, TYPE + LEASE + record(42, ramp(270)), "refused 8 11"),
     ("9 behind a long record", 3, 1472, record(43, ramp(300)) + BROKEN, "refused 9 303"),
     ("12 behind a long record", 3, 1472, record(43, ramp(300)) + "C8 00", "refused 12 303"),
@@ -664,47 +695,127 @@ LONG_RECORDS = [
     ("12: 1,024, one byte missing", 3, 1472, "2B 04 00" + ramp(1023), "refused 12 0"),
 ]
 
-# The shortest right data for each code that has a row; in code order, so that 1 stands before 3.
+# --- Option 82, relay agent information (request 09) --------------------------------------------------------------------
+
+BOTH = "01 02 0A 0B 02 01 0C"  # circuit id and remote id: 7 bytes
+RELAY = record(82, BOTH)           # 10 bytes
+RELAY_2 = record(82, "01 00")      # 5 bytes
+IN_OPTIONS = option(82, BOTH)      # 9 bytes
+LONG = "09 FF" + ramp(255) + "0A 20" + ramp(32)  # 291 bytes of two sub-options
+
+RELAY_INFORMATION = [
+    # "In a settings sheet 82 must come last."
+    ("82 alone", 0, 300, RELAY, f"plan 0 | options {IN_OPTIONS}FF zeros 50 | accepted 1"),
+    ("82 last of three", 0, 300, TYPE + LEASE + RELAY, f"plan 0 | options 35 01 05 33 04 00 00 0E 10 {IN_OPTIONS}FF zeros 41 | accepted 3"),
+    ("82 of 2 bytes", 0, 300, RELAY_2, "plan 0 | options 52 02 01 00 FF zeros 55 | accepted 1"),
+    ("82 with sub-codes 0 and 255", 0, 300, record(82, "00 00 FF 01 FF"), "plan 0 | options 52 05 00 00 FF 01 FF FF zeros 52 | accepted 1"),
+    # "23 for 82 not last, at its tag, after 14"
+    ("23: 82 first of two", 0, 300, RELAY + TYPE, "refused 23 0"),
+    ("23: 82 in the middle", 0, 300, TYPE + RELAY + LEASE, "refused 23 4"),
+    ("23: one record behind, without data", 0, 300, TYPE + LEASE + RELAY + BARE, "refused 23 11"),
+    ("23: many records behind", 0, 600, RELAY_2 + "".join(record(c, "") for c in range(200, 254)), "refused 23 0"),
+    ("23: 81 and 83 may stand anywhere, 82 may not", 0, 300, record(81, "") + record(83, "") + RELAY + record(84, ""), "refused 23 6"),
+    ("81 and 83 behind nothing", 0, 300, record(83, "") + record(81, "") + RELAY, f"plan 0 | options 53 00 51 00 {IN_OPTIONS}FF zeros 46 | accepted 3"),
+    *every_permission("23, any permission", 300, RELAY + TYPE, "refused 23 0"),
+    # after 14
+    ("14 before 23", 0, 300, ROUTER + RELAY + MASK, "refused 14 0"),
+    ("14 before 23, 82 first", 0, 300, RELAY + ROUTER + MASK, "refused 14 10"),
+    ("23 where 1 and 3 are in order", 0, 300, MASK + RELAY + ROUTER, "refused 23 7"),
+    ("14, 82 last", 0, 300, ROUTER + MASK + RELAY, "refused 14 0"),
+    # behind the first faulty record
+    ("12 before 23", 0, 300, RELAY + "35 00 01", "refused 12 10"),
+    ("12 before 23: a byte behind 82 is a record cut short", 0, 300, RELAY + "35", "refused 12 10"),
+    ("10 before 23", 0, 300, RELAY + "34 00 01 01", "refused 10 10"),
+    ("13 before 23", 0, 300, RELAY + record(200, ramp(1025)), "refused 13 10"),
+    ("7 before 23: 82 again", 0, 300, RELAY + RELAY, "refused 7 10"),
+    ("7 before 23: 82 again, last", 0, 300, RELAY + TYPE + RELAY, "refused 7 14"),
+    ("8 before 23", 0, 300, RELAY + "35 00 00", "refused 8 10"),
+    ("9 before 23", 0, 300, RELAY + BROKEN, "refused 9 10"),
+    ("9 of an earlier record before 23", 0, 300, BROKEN + RELAY + TYPE, "refused 9 0"),
+    ("1 before 23", 0, 239, RELAY + TYPE, "refused 1 239"),
+    ("2 before 23", 0, 1473, RELAY + TYPE, "refused 2 1473"),
+    ("15 before 23", 4, 300, RELAY + TYPE, "refused 15 0"),
+    ("16 before 23", 0, 300, RELAY + "00" * 4087, "refused 16 4097"),
+    # before 11
+    ("23 before 11", 0, 240, RELAY + TYPE, "refused 23 0"),
+    ("23 before 11: 82 would fit, the other would not", 0, 250, RELAY + record(200, ramp(255)), "refused 23 0"),
+    ("11: 82 last, and a byte short", 0, 249, RELAY, "refused 11 249"),
+    ("82 last, just enough", 0, 250, RELAY, f"plan 0 | options {IN_OPTIONS}FF zeros 0 | accepted 1"),
+    # "8 where sub-options don't fill the data exactly or are under 2 bytes"
+    ("8: no data", 0, 300, record(82, ""), "refused 8 0"),
+    ("8: one byte", 0, 300, TYPE + record(82, "01"), "refused 8 4"),
+    ("8: a byte left over", 0, 300, TYPE + record(82, "01 00 02"), "refused 8 4"),
+    ("8: a pad left over", 0, 300, record(82, "01 00 00"), "refused 8 0"),
+    ("8: an END left over", 0, 300, record(82, "01 00 FF"), "refused 8 0"),
+    ("8: the last sub-option runs past", 0, 300, record(82, "01 02 0A"), "refused 8 0"),
+    ("8 of 82 itself, not last", 0, 300, record(82, "01") + TYPE, "refused 8 0"),
+    ("7 before 8: 82 again, broken", 0, 300, RELAY + record(82, "01"), "refused 7 10"),
+    ("12 before 8", 0, 300, "52 00 03 01 00", "refused 12 0"),
+    ("13 before 8", 0, 300, record(82, ramp(1025)), "refused 13 0"),
+    ("8 before 11", 0, 240, record(82, "01"), "refused 8 0"),
+    # A long 82 is split as any other, also within a sub-option.
+    ("82 of 291 bytes", 0, 600, TYPE + record(82, LONG), "plan 0 | options 35 01 05" + pieces(82, LONG, 255, 36) + "FF zeros 61 | accepted 3"),
+    ("82 of 1,024 bytes", 0, 1472, record(82, "09 FF" + ramp(255) + "09 FF" + ramp(255) + "09 FF" + ramp(255) + "09 FB" + ramp(251)),
+     "plan 0 | options " + pieces(82, "09 FF" + ramp(255) + "09 FF" + ramp(255) + "09 FF" + ramp(255) + "09 FB" + ramp(251), 255, 255, 255, 255, 4)
+     + "FF zeros 197 | accepted 5"),
+    ("8: 82 of 291 bytes, the last sub-option runs past", 0, 600, TYPE + record(82, "09 FF" + ramp(255) + "0A 21" + ramp(32)), "refused 8 4"),
+    # Nothing keeps 82 out of file or sname: the plans are document 01's.
+    ("82 in file", 1, 247, TYPE + RELAY, f"plan 1 | options 34 01 01 35 01 05 FF zeros 0 | file {IN_OPTIONS}FF zeros 118 | accepted 3"),
+    ("82 in sname", 2, 247, TYPE + RELAY, f"plan 2 | options 34 01 02 35 01 05 FF zeros 0 | sname {IN_OPTIONS}FF zeros 54 | accepted 3"),
+    ("82 in pieces over options and file", 1, 501, record(82, LONG),
+     "plan 1 | options 34 01 01" + option(82, "09 FF" + ramp(253)) + "FF zeros 0 | file " + option(82, "FE FF 0A 20" + ramp(32)) + "FF zeros 89 | accepted 3"),
+]
+
+# The shortest right data for each code that has a row; in code order, so that 1 stands before 3, and 82 is last.
 SHORTEST = {c: "01020304" for c in ADDRESS + ADDRESSES + UNSIGNED32 + [2]}
 SHORTEST.update({c: "01" for c in FLAG + TEXT + OPAQUE + [23, 37, 46, 53]})
 SHORTEST.update({13: "0102", 22: "0240", 26: "0044", 57: "0240", 25: "0044", 61: "0102", 68: "",
-                 21: "0102030405060708", 33: "0102030405060708"})
+                 21: "0102030405060708", 33: "0102030405060708", 82: "0900"})
 ROWS = sorted(SHORTEST)
-# With these the options take 349 bytes; 178 codes without a row and without data take 356. Beside 52 and END 1,228 bytes are to
-# be had, 523 more, which 62, 63 and 77 take as data. 253 and 254 are for file and sname.
-MOST = {**SHORTEST, **{c: "" for c in UNKNOWN[3:-2]}, 62: ramp(255), 63: ramp(255), 77: ramp(13)}
+# Beside 52 and END the options have 1,228 bytes. Every tag but 52 has a record; 254 is for file and 82, which is to be last, for sname; the first three codes without
+# a row take as data what the others leave of the 1,228 bytes. Counts and places are counted here, since codes get and lose rows.
+FILLERS, IN_FILE, IN_SNAME = UNKNOWN[:3], 254, 82
+MOST = {c: SHORTEST.get(c, "") for c in sorted(ROWS + UNKNOWN) if c not in (IN_FILE, IN_SNAME)}
+ONE_61, ONE_62 = "09 3B" + ramp(59), "09 3C" + ramp(60)  # a sub-option that takes so many bytes
+LEFT = 1228 - taken(MOST)
+MOST.update(zip(FILLERS, (ramp(255), ramp(255), ramp(LEFT - 510))))
 MOST_SHEET = "".join(record(c, MOST[c]) for c in sorted(MOST))
 MOST_OPTIONS = "".join(option(c, MOST[c]) for c in sorted(MOST))
+WHOLE = MOST_SHEET + record(IN_FILE, ramp(125)) + record(IN_SNAME, ONE_61)
+assert len(MOST) == 251 and taken(MOST) == 1228 and size(WHOLE) == 1671
+FROM_100 = [c for c in UNKNOWN if c >= 100][:47]
+ROWS_BACKWARDS = list(reversed(ROWS))
 MANY = [
     # 253 records; their options fill 1,228 + 127 + 63 bytes, and a record takes one more each: 1,671. No longer sheet is accepted.
-    *every_permission("every tag, every byte of all fields: the longest sheet that is accepted", 1472,
-                      MOST_SHEET + "FD 00 7D" + ramp(125) + "FE 00 3D" + ramp(61),
+    *every_permission("every tag, every byte of all fields: the longest sheet that is accepted", 1472, WHOLE,
                       "refused 11 1472", "refused 11 1472", "refused 11 1472",
-                      "plan 3 | options 34 01 03" + MOST_OPTIONS + "FF zeros 0 | file FD 7D" + ramp(125)
-                      + "FF zeros 0 | sname FE 3D" + ramp(61) + "FF zeros 0 | accepted 254"),
-    ("every tag, one byte more in sname", 3, 1472, MOST_SHEET + "FD 00 7D" + ramp(125) + "FE 00 3E" + ramp(62), "refused 11 1472"),
-    ("every tag, one byte more in file", 3, 1472, MOST_SHEET + "FD 00 7E" + ramp(126) + "FE 00 3D" + ramp(61), "refused 11 1472"),
-    ("every tag, one byte less of options", 3, 1471, MOST_SHEET + "FD 00 7D" + ramp(125) + "FE 00 3D" + ramp(61), "refused 11 1471"),
-    ("every tag, one again at the end", 3, 1472, MOST_SHEET + "FD 00 00 FE 00 00 FD 00 00", "refused 7 1485"),
-    ("every code without a row, no data", 0, 601, "".join(record(c, "") for c in UNKNOWN),
-     "plan 0 | options " + "".join(option(c, "") for c in UNKNOWN) + "FF zeros 0 | accepted 180"),
-    ("every code without a row, 4 bytes", 0, 1321, "".join(record(c, "00FF00FF") for c in UNKNOWN),
-     "plan 0 | options " + "".join(option(c, "00FF00FF") for c in UNKNOWN) + "FF zeros 0 | accepted 180"),
-    ("codes without a row, 0 to 46 bytes", 0, 1416, "".join(record(100 + n, ramp(n)) for n in range(47)),
-     "plan 0 | options " + "".join(option(100 + n, ramp(n)) for n in range(47)) + "FF zeros 0 | accepted 47"),
+                      "plan 3 | options 34 01 03" + MOST_OPTIONS + "FF zeros 0 | file " + option(IN_FILE, ramp(125))
+                      + "FF zeros 0 | sname " + option(IN_SNAME, ONE_61) + "FF zeros 0 | accepted 254"),
+    ("every tag, one byte more in sname", 3, 1472, MOST_SHEET + record(IN_FILE, ramp(125)) + record(IN_SNAME, ONE_62), "refused 11 1472"),
+    ("every tag, one byte more in file", 3, 1472, MOST_SHEET + record(IN_FILE, ramp(126)) + record(IN_SNAME, ONE_61), "refused 11 1472"),
+    ("every tag, one byte less of options", 3, 1471, WHOLE, "refused 11 1471"),
+    ("every tag, one again at the end", 3, 1472, MOST_SHEET + record(IN_FILE, "") + RELAY_2 + record(IN_FILE, ""), f"refused 7 {size(MOST_SHEET) + 8}"),
+    ("every tag, 82 before 254", 3, 1472, MOST_SHEET + RELAY_2 + record(IN_FILE, ""), f"refused 23 {size(MOST_SHEET)}"),
+    ("every code without a row, no data", 0, 241 + 2 * len(UNKNOWN), "".join(record(c, "") for c in UNKNOWN),
+     "plan 0 | options " + "".join(option(c, "") for c in UNKNOWN) + f"FF zeros 0 | accepted {len(UNKNOWN)}"),
+    ("every code without a row, 4 bytes", 0, 241 + 6 * len(UNKNOWN), "".join(record(c, "00FF00FF") for c in UNKNOWN),
+     "plan 0 | options " + "".join(option(c, "00FF00FF") for c in UNKNOWN) + f"FF zeros 0 | accepted {len(UNKNOWN)}"),
+    ("codes without a row, 0 to 46 bytes", 0, 1416, "".join(record(c, ramp(n)) for n, c in enumerate(FROM_100)),
+     "plan 0 | options " + "".join(option(c, ramp(n)) for n, c in enumerate(FROM_100)) + "FF zeros 0 | accepted 47"),
     ("codes without a row, some greater lengths", 0, 1246, "".join(record(n, ramp(n)) for n in (100, 127, 128, 129, 254))
      + "FD 00 FF" + ramp(255), "plan 0 | options " + "".join(option(n, ramp(n)) for n in (100, 127, 128, 129, 254))
      + "FD FF" + ramp(255) + "FF zeros 0 | accepted 6"),
-    ("every code with a row", 0, 590, "".join(record(c, SHORTEST[c]) for c in ROWS),
-     "plan 0 | options " + "".join(option(c, SHORTEST[c]) for c in ROWS) + "FF zeros 0 | accepted 73"),
-    ("every code with a row, 1 last", 0, 590, "".join(record(c, SHORTEST[c]) for c in reversed(ROWS)), "refused 14 401"),
+    ("every code with a row", 0, 241 + taken(SHORTEST), "".join(record(c, SHORTEST[c]) for c in ROWS),
+     "plan 0 | options " + "".join(option(c, SHORTEST[c]) for c in ROWS) + f"FF zeros 0 | accepted {len(ROWS)}"),
+    ("every code with a row, 1 last", 0, 241 + taken(SHORTEST), "".join(record(c, SHORTEST[c]) for c in ROWS_BACKWARDS),
+     f"refused 14 {size(''.join(record(c, SHORTEST[c]) for c in ROWS_BACKWARDS[:ROWS_BACKWARDS.index(3)]))}"),
     ("the longest address lists", 0, 1257, "".join(record(c, ramp(252)) for c in (3, 41, 68, 76)),
      "plan 0 | options " + "".join(option(c, ramp(252)) for c in (3, 41, 68, 76)) + "FF zeros 0 | accepted 4"),
     ("the longest text, opaque and 16-bit list", 0, 1011, record(12, "61" * 255) + record(61, ramp(255)) + record(25, "0044" * 127),
      "plan 0 | options 0C FF" + "61" * 255 + "3D FF" + ramp(255) + "19 FE" + "0044" * 127 + "FF zeros 0 | accepted 3"),
 ]
 
-# Document 01, "The kinds, by code": codes, right data, data of a wrong length (8), data of a wrong value (9).
+# Document 01, "The kinds, by code", and request 09: codes, right data, data of a wrong length (8), data of a wrong value (9).
 KINDS = [
     ("one address", ADDRESS, ["00000000", "FFFFFFFF"], ["", "01", "010203", "0102030405", "0102030405060708"], []),
     ("address list", ADDRESSES, ["01020304", "00" * 8], ["", "01", "010203", "0102030405", "010203040506"], []),
@@ -726,7 +837,9 @@ KINDS = [
     ("signed", [2], ["00000000", "7FFFFFFF", "80000000", "FFFFFFFF"], ["", "010203", "0102030405"], []),
     ("text", TEXT, ["61", "00", "610000", "7F", "01097F1F0000"], [""], ["80", "61C862", "61800000", "610062", "0061"]),
     ("opaque", OPAQUE, ["00", "010203", "000000", "80FF0061"], [""], []),
+    ("10: retired row", RETIRED, ["", "02", "0102", "01020304", "0102030405"], [], []),
     ("opaque of two or more", [61], ["0102", "000000", "80FF0061"], ["", "01"], []),
+    ("relay information", [82], ["0100", "00000000", "FF01FF", "01020A0B02010C"], ["", "01", "FF", "010002", "01020A", "0100FF"], []),
 ]
 
 
@@ -790,13 +903,13 @@ PLAN_2 = without_plan_2()
 
 
 def main():
-    hand = OWN_CASES + LENGTHS + PERMISSIONS + PLANS + CONTENT + FAULTS + ROUTER_FIRST + SHEETS + LONG_RECORDS + MANY + PLAN_2
+    hand = OWN_CASES + LENGTHS + PERMISSIONS + PLANS + CONTENT + FAULTS + ROUTER_FIRST + SHEETS + LONG_RECORDS + RELAY_INFORMATION + MANY + PLAN_2
     cases = hand + kind_cases()
     given, printed = b"", []
     for reason, permission, length, text, expected, *first in cases:
         sheet, fill = bytes.fromhex(text), first[0] if first else FILL
-        given += bytes([permission]) + length.to_bytes(2, "big") + bytes([fill]) + len(sheet).to_bytes(2, "big") + sheet
-        printed += lines(length, fill, expected) + ["-"]
+        given += bytes([permission]) + length.to_bytes(2, "big") + bytes([fill, 0, 0]) + len(sheet).to_bytes(2, "big") + sheet
+        printed += lines(length, fill, sheet, expected) + ["-"]
     OUT.mkdir(parents=True, exist_ok=True)
     (OUT / "stdin").write_bytes(given)
     (OUT / "stdout").write_text("\n".join(printed) + "\n")

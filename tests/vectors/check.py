@@ -1,5 +1,5 @@
 #!/usr/bin/env python3
-"""Read crates/vectors/stdin by document 01 and requests 01 to 03 and 07 anew, and hold every line of crates/vectors/stdout to it."""
+"""Read crates/vectors/stdin by document 01 and requests 01 to 03, 07 and 09 anew, and hold every line of crates/vectors/stdout to it."""
 
 import struct
 import sys
@@ -7,7 +7,7 @@ from pathlib import Path
 
 HERE = Path(__file__).resolve().parent
 sys.path.append(str(HERE.parent))
-from reader import FIELDS, Option, Piece, Refused, join, read, records, row_of
+from reader import FIELDS, Option, Piece, Refused, fault, join, read, records, row_of
 
 OUT = HERE.parent.parent / "crates" / "vectors"
 
@@ -20,11 +20,9 @@ def content(known, code, at, data):
     row = row_of(code)
     if row is None or code not in known:
         return f"unknown {len(data)}"
-    kind, _, length_right, data_right = row
-    if not length_right(code, len(data)):
-        return f"broken 8 {at}"
-    if data_right and not data_right(code, data):
-        return f"broken 9 {at}"
+    number, kind = fault(code, data), row[0]
+    if number:
+        return f"broken {number} {at}"
     if kind in FORMAT:
         return f"{kind} {struct.unpack(FORMAT[kind], data)[0]}"
     length = len(data)
@@ -43,14 +41,31 @@ def mixed(bytes_):
     total = 0
     for byte in bytes_:
         total = (total * 31 + byte) % 1000003
-    return f"{len(bytes_)} {total}"
+    return total
+
+
+def filled(room, data=b"", refusal=None):
+    """A lent buffer of rising bytes after a call: what was given, or the refusal, and the sum of what stayed."""
+    kept = mixed([(160 + i) & 255 for i in range(len(data), room)])
+    return f"{refusal} rest {kept}" if refusal else f"{len(data)} {mixed(data)} rest {kept}"
+
+
+def copied(m, code, room):
+    """The copy of a code: refused as the reader refuses, then 11 where it is absent, at 0, or too long, at the room."""
+    refusal = answer(m, (), code)
+    if not refusal.startswith("refused"):
+        option = join(read(m)).get(code)
+        refusal = "refused 11 0" if option is None else f"refused 11 {room}" if len(option.data) > room else None
+    return f"copy {code} " + filled(room, b"" if refusal else option.data, refusal)
 
 
 def printed(m):
     try:
         met = read(m)
-    except Refused as fault:
-        return "refused {} {}\n-\n".format(*fault.args)
+    except Refused as refused:
+        refusal = "refused {} {}".format(*refused.args)
+        present = "present 0 0 0 0 count 0 lowest 0 refusal {} {}".format(*refused.args)
+        return f"{refusal}\n{present}\n{copied(m, 53, 1472)}\nrecords {filled(2048, refusal=refusal)}\n-\n"
     options = join(met)
     out = f"accepted {len(met)}\n"
     for piece in met:
@@ -58,13 +73,11 @@ def printed(m):
     marks = sum(1 << code for code in options)
     words = struct.unpack("<4Q", marks.to_bytes(32, "little"))
     lowest = next((code for code in range(1, 255) if code in options), 0)
-    out += "present {} {} {} {} count {} lowest {}\n".format(*words, bin(marks).count("1"), lowest)
+    out += "present {} {} {} {} count {} lowest {} refusal 0 0\n".format(*words, bin(marks).count("1"), lowest)
     for piece in met:
         option = options[piece.code]
-        out += f"{piece.code} {look_up(EVERY, piece.code, option)}\n"
-        if option.pieces > 1:
-            out += f"copy {piece.code} {mixed(option.data)}\n"
-    return out + f"records {mixed(records(options))}\n-\n"
+        out += f"{piece.code} {look_up(EVERY, piece.code, option)}\n{copied(m, piece.code, 1472)}\n"
+    return out + f"records {filled(2048, records(options))}\n-\n"
 
 
 # --- The lines after the cases ------------------------------------------------------------------------------------------
@@ -81,8 +94,8 @@ def answer(m, known, code):
         return "refused 10 0"
     try:
         options = join(read(m))
-    except Refused as fault:
-        return "refused {} {}".format(*fault.args)
+    except Refused as refused:
+        return "refused {} {}".format(*refused.args)
     return look_up(known, code, options[code]) if code in options else "absent"
 
 
@@ -114,8 +127,8 @@ def head(m, count):
     """1, 2, 3, then 18 for an index not of 256 numbers."""
     try:
         read(m)
-    except Refused as fault:
-        if fault.args[0] <= 3:
+    except Refused as refused:
+        if refused.args[0] <= 3:
             raise
     if count != 256:
         raise Refused(18, count)
@@ -126,8 +139,8 @@ def built(m, index):
     try:
         head(m, len(index))
         options = join(read(m))
-    except Refused as fault:
-        return "index refused {} {}".format(*fault.args), index
+    except Refused as refused:
+        return "index refused {} {}".format(*refused.args), index
     return "index 512", [0 if c not in options else 65535 if options[c].pieces > 1 else options[c].first.at for c in range(256)]
 
 
@@ -136,8 +149,8 @@ def sought(m, index, known, code):
         return "refused 10 0"
     try:
         head(m, len(index))
-    except Refused as fault:
-        return "refused {} {}".format(*fault.args)
+    except Refused as refused:
+        return "refused {} {}".format(*refused.args)
     e = index[code]
     if e == 0:
         return "absent"
@@ -194,24 +207,31 @@ def extra():
     lines += [f"text {code} {text(m, EVERY, code)}" for code in (12, 15, 53, 50, 0)]
     lines += [f"text 12 {text(m, (), 12)}"]
     lines += [f"walk {code}{steps(m, code)}" for code in (3, 4, 6, 50)]
-    records = printed(m).splitlines()[-2]
-    needed = int(records.split()[1])
-    lines += [records, f"records refused 11 {needed - 1}"]
+    sheet = records(join(read(m)))
+    lines += [f"records {filled(53, sheet)}", f"records {filled(52, refusal='refused 11 52')}"]
+    assert len(sheet) == 53
+    lines += [copied(m, code, room) for code, room in ((12, 3), (3, 8), (51, 8), (51, 3), (50, 8), (0, 8), (255, 8))]
     lines += [f"{code} {answer(zeros, EVERY, code)}" for code in (12, 0)]
-    lines += [f"data 12 {data(zeros, 12)}", f"text 12 {text(zeros, EVERY, 12)}", "present 0 0 0 0 count 0 lowest 0"]
-    lines += [f"records {printed(zeros).splitlines()[0]}"]
+    lines += [f"data 12 {data(zeros, 12)}", f"text 12 {text(zeros, EVERY, 12)}", "present 0 0 0 0 count 0 lowest 0 refusal 3 236"]
+    lines += [f"records {filled(9, refusal='refused 3 236')}", copied(zeros, 12, 9), copied(zeros, 0, 9)]
     lines += [f"steps {code}{steps(m, code)}" for code in (3, 4, 6, 50)]
     lines += index_lines(m)
     return "".join(line + "\n" for line in lines)
 
 
-def main():
-    given, place, messages = (OUT / "stdin").read_bytes(), 0, []
+def cases(given):
+    place, messages = 0, []
     while place < len(given):
-        length = given[place] * 256 + given[place + 1]
-        messages.append(given[place + 2:place + 2 + length])
-        place += 2 + length
+        assert given[place:place + 6] == bytes(6)
+        length = given[place + 6] * 256 + given[place + 7]
+        messages.append(given[place + 8:place + 8 + length])
+        place += 8 + length
     assert place == len(given)
+    return messages
+
+
+def main():
+    messages = cases((OUT / "stdin").read_bytes())
     text = (OUT / "stdout").read_text()
     expected, lines = [], []
     for line in text.splitlines():

@@ -2,7 +2,7 @@
 ghost use mathlib.Core.Path.{_≡_};
 ghost use Rattle.message.specs.Fields.{fieldOf};
 ghost use Rattle.message.specs.Active.{fieldFrom, laterFields};
-ghost use Rattle.cursor.specs.Cursor.{firstPosition, left, stepOf};
+ghost use Rattle.cursor.specs.Cursor.{firstPosition, left, stepOf, StepsGiveTheOptions};
 use message::Field;
 use wire::Spot;
 
@@ -80,3 +80,8 @@ pub fn next_option(m: &[u8], over: u32, from: Position) -> Step
         _ => s,
     }
 }
+
+// The statements of specs/ hold.
+pub fn proved()
+    ensures { λ _. ⌜ StepsGiveTheOptions ⌝ }
+{}

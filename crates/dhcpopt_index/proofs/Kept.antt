@@ -1,4 +1,4 @@
--- Nothing is lost of the answer of building. Assumes nothing.
+-- No refusal of building has the number 0, and none changes a number. Assumes nothing.
 use mathlib.Core.Path.{_≡_, refl}
 use mathlib.Core.List.{List}
 use Prim.Native.Nat.{ℕ}
@@ -9,7 +9,7 @@ use Rattle.options.specs.Index.{build}
 use Rattle.options.specs.IndexClaims.{HeadRow, of-message, row-18, Builds, refused-head, refused-reader, builds}
 use Rattle.theorems.proofs.Indexes.{build-is-right}
 use Rattle.filled.specs.Plain.{Kept}
-use Rattle.filled.proofs.Kept.{declined-kept}
+use Rattle.filled.proofs.Kept.{declined-kept, given-is-kept}
 use Rattle.dhcpopt_index.specs.Built.{BuildKept}
 
 row-not : {m : List ℕ} {n p : ℕ} {w : When} → Row m n p w → n ≡ 0 → ⊥
@@ -25,10 +25,10 @@ head-not : {m idx : List ℕ} {n p : ℕ} → HeadRow m idx n p → n ≡ 0 → 
 head-not (of-message l f) e = row-not (f .applies) e
 head-not (row-18 h n) e = omega arith
 
-kept : {m old : List ℕ} {w : Filled} → Builds m old w → Kept w
+kept : {m old : List ℕ} {w : Filled} → Builds m old w → Kept w old
 kept {old = old} (refused-head {n = n} {p = p} h) = declined-kept n p old (head-not h)
 kept {old = old} (refused-reader {n = n} {p = p} r e f) = declined-kept n p old (row-not (f .applies))
-kept (builds e b) = refl
+kept {old = old} (builds {idx = idx} e b) = given-is-kept 512 idx old
 
 pub build-kept : BuildKept
 build-kept m old = kept (build-is-right m old (build m old) .0 refl)

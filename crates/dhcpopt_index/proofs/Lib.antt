@@ -1,3 +1,3 @@
 pub mod Kept
-mod Used
+pub mod Used
 mod Through

@@ -4,7 +4,7 @@
 ghost use mathlib.Core.Path.{_≡_};
 ghost use mathlib.Core.Bool.{cond};
 ghost use mathlib.Core.List.{[], _∷_};
-ghost use Prim.Native.Nat.{_≤_};
+ghost use Prim.Native.Nat.{_≤_, _%_};
 ghost use lib.Dec.{eqb};
 ghost use lib.IntN.{pos};
 ghost use lib.ListN.{length};
@@ -17,11 +17,17 @@ ghost use Rattle.filled.specs.Plain.{plainFilled};
 ghost use Rattle.kinds.specs.Numbers.{rowAt, valueFaultIn};
 ghost use Rattle.lookup.specs.Found.{valueOf, contentBy};
 ghost use Rattle.dhcpopt_reader.specs.Plain.{plainNumber, plainContent, plainAnswer};
-ghost use Rattle.dhcpopt_index.specs.Found.{textContent, spanAt, foundAt};
+ghost use Rattle.dhcpopt_index.specs.Found.{textContent, relayContent, spanAt, foundAt};
+ghost use Rattle.dhcpopt_index.specs.Built.{BuildKept};
 use dhcpopt_reader::PlainAnswer;
 use dhcpopt_reader::PlainContent;
 use filled::PlainFilled;
 use message::Field;
+
+// No refusal of building has number 0, and none changes a number.
+pub fn proved()
+    ensures { λ _. ⌜ BuildKept ⌝ }
+{}
 
 // Builds the index of a message: the place of each code's byte, 0 where it is absent, 65,535 where it comes in pieces.
 #[no_mangle]
@@ -67,6 +73,7 @@ fn value(k: u8, d: &[u8]) -> PlainContent
             dhcpopt_reader::of_number(9, dhcpopt_reader::from_signed(z))
         }
         kinds::TEXT => dhcpopt_reader::of_part(4, 10, kinds::text_len(d)),
+        kinds::RELAY => dhcpopt_reader::of_part(4, 12, d.len()),
         _ => dhcpopt_reader::of_part(4, 11, d.len()),
     }
 }
@@ -81,12 +88,24 @@ fn text_content(d: &[u8]) -> PlainContent
     dhcpopt_reader::of_part(4, 10, kinds::text_len(d))
 }
 
-// How data break the rule of value of a row.
+// Relay information too.
+fn relay_content(d: &[u8]) -> PlainContent
+    ensures { λ r. ⌜ r ≡ plainContent (relayContent (now (d .entry))) ⌝ }
+{
+    let fault = kinds::suboptions_fault(d);
+    if fault != 0 {
+        return broken(fault);
+    }
+    dhcpopt_reader::of_part(4, 12, d.len())
+}
+
+// How data break the rule of value of another row.
 fn value_fault(row: u8, d: &[u8]) -> u8
+    requires { ⌜ (row % 16 ≡ 12 → ⊥) ⌝ }
     ensures { λ r. ⌜ r ≡ valueFaultIn (rowAt row) (now (d .entry)) ⌝ }
 {
     if kinds::is_list(row) {
-        return kinds::list_fault(row, d);
+        return kinds::short_list_fault(row, d);
     }
     kinds::number_fault(row, d)
 }
@@ -104,6 +123,9 @@ fn content(row: u8, d: &[u8]) -> PlainContent
     let k = kinds::kind_of(row);
     if k == kinds::TEXT {
         return text_content(d);
+    }
+    if k == kinds::RELAY {
+        return relay_content(d);
     }
     let fault = value_fault(row, d);
     if fault != 0 {

@@ -1,137 +1,126 @@
--- From what C gets, each answer can be had back. Assumes nothing.
-use mathlib.Core.Path.{_≡_, refl, ap}
-use mathlib.Core.Bool.{Bool, true, false, cond}
-use mathlib.Core.List.{List, [], _∷_, _++_}
-use mathlib.Core.Option.{Option, none, some, Option·map}
-use Prim.Native.Nat.{ℕ, _≤_}
+-- What C gets of each answer, case by case; and what a refusal leaves in a lent buffer. Assumes nothing.
+use mathlib.Core.Path.{_≡_, refl, sym, subst}
+use mathlib.Core.List.{List, [], _∷_}
+use Prim.Native.Nat.{ℕ}
 use native.Mathlib.Omega.{arith}
-use lib.Dec.{ltb, eqb}
-use lib.ListN.{length, drop}
-use borrow.Author.Tests.{ne-eqb}
-use Rattle.options.specs.Message.{Field, options, file, sname, Opt, endToEnd}
-use Rattle.options.specs.Kinds.{Kind, broken, number, part}
+use Rattle.options.specs.Message.{Field, options, file, sname, start, Opt, endToEnd}
+use Rattle.options.specs.Kinds.{Kind, address, addresses, pairs, flag, octet, number16, numbers16, unsigned32, signed32, text, opaque, relay, broken, number, part}
 use Rattle.options.specs.Reading.{Reading, accepted, refused, readMessage, pieces, parse}
 use Rattle.options.specs.Vendor.{Items, listed, past, itemsIn, itemRecords, vendorIn, vendorRecords}
 use Rattle.options.specs.Answers as asked
 use Rattle.filled.specs.Plain.{Kept}
 use Rattle.filled.proofs.Kept.{declined-kept, either-kept, given-kept}
-use Rattle.kinds.proofs.Numbering.{kind-back}
-use Rattle.present.specs.Marked.{placeOf}
-use Rattle.present.proofs.Kept.{refused-by-a-number, verdict-back}
-use Rattle.dhcpopt_reader.specs.Plain.{VerdictKept, FromNoOption, NoOriginTold, NeedlessMembers, NoPlaceNoSize, fieldNumber, plainWhole, plainSeveral, plainAnswer, fieldAt, originFrom, both, AnswerKept, PlacesKept, ExtentKept, AddressKept, DoneStays, CodesKept, FilledKept, CopyKept, VendorKept}
+use Rattle.ranges.specs.Rows.{numberOf}
+use Rattle.present.proofs.Kept.{refused-by-a-number}
+use Rattle.dhcpopt_reader.specs.declared.PlainAnswer.{PlainAnswer}
+use Rattle.dhcpopt_reader.specs.Plain.{fieldNumber, plainWhole, plainSeveral, plainAnswer, FieldTold, PiecesTold, KindTold, ToldAs, AnswerByCase, ExtentByCase, AddressByCase, CodesByCase, RecordsKept, CopyKept, VendorKept}
+use Rattle.dhcpopt_reader.specs.Plain as told
 
-field-kept : (fd : Field) → fieldAt (fieldNumber fd) ≡ some fd
-field-kept options = refl
-field-kept file = refl
-field-kept sname = refl
+-- ---- The lookup's answer
 
-whole-kept : (w : asked.Wholeness)
-    → cond (eqb (plainSeveral w) 0) (some asked.inOne) (cond (eqb (plainSeveral w) 1) (some (asked.inPieces (plainWhole w))) none) ≡ some w
-whole-kept asked.inOne = refl
-whole-kept (asked.inPieces n) = refl
+field-told : (fd : Field) → FieldTold fd (fieldNumber fd) (start fd)
+field-told options = told.in-options
+field-told file = told.in-file
+field-told sname = told.in-sname
 
-origin-back : (g : asked.Origin)
-    → both (λ (fd : Field) (w : asked.Wholeness). record { field = fd; offset = g .offset; wholeness = w }) (fieldAt (fieldNumber (g .field)))
-    (cond (eqb (plainSeveral (g .wholeness)) 0) (some asked.inOne) (cond (eqb (plainSeveral (g .wholeness)) 1) (some (asked.inPieces (plainWhole (g .wholeness)))) none)) ≡ some g
-origin-back g = rw (field-kept (g .field), whole-kept (g .wholeness))
+pieces-told : (x : asked.Wholeness) → PiecesTold x (plainSeveral x) (plainWhole x)
+pieces-told asked.inOne = told.in-one
+pieces-told (asked.inPieces n) = told.in-several
 
--- the same of every content: case by case, since each is told by members of its own
-origin-kept : (g : asked.Origin) (x : asked.Content) → originFrom (plainAnswer (asked.Found g x)) ≡ some g
-origin-kept g (asked.unknown n) = origin-back g
-origin-kept g (asked.known (broken n)) = origin-back g
-origin-kept g (asked.known (number k z)) = origin-back g
-origin-kept g (asked.known (part k n)) = origin-back g
+kind-told : (k : Kind) → KindTold k (numberOf k)
+kind-told address = told.one-address
+kind-told addresses = told.address-list
+kind-told pairs = told.address-pairs
+kind-told flag = told.flags
+kind-told octet = told.one-byte
+kind-told number16 = told.of-16-bits
+kind-told numbers16 = told.list-of-16-bits
+kind-told unsigned32 = told.unsigned-32-bits
+kind-told signed32 = told.signed-32-bits
+kind-told text = told.texts
+kind-told opaque = told.opaques
+kind-told relay = told.relays
 
-found-kept : (g : asked.Origin) (x : asked.Content) (y : Option asked.Content) → y ≡ some x → both asked.Found (originFrom (plainAnswer (asked.Found g x))) y ≡ some (asked.Found g x)
-found-kept g x y e = rw (origin-kept g x, e)
+is-told : (a : asked.Answer) → ToldAs a (plainAnswer a)
+is-told asked.Absent = told.absent
+is-told (asked.Refused n p) = told.refused
+is-told (asked.Found g (asked.unknown n)) = told.unknown (field-told (g .field)) (pieces-told (g .wholeness))
+is-told (asked.Found g (asked.known (broken n))) = told.is-broken (field-told (g .field)) (pieces-told (g .wholeness))
+is-told (asked.Found g (asked.known (number k z))) = told.a-number (field-told (g .field)) (pieces-told (g .wholeness)) (kind-told k)
+is-told (asked.Found g (asked.known (part k n))) = told.a-part (field-told (g .field)) (pieces-told (g .wholeness)) (kind-told k)
 
-pub answer-kept : AnswerKept
-answer-kept asked.Absent = refl
-answer-kept (asked.Refused n p) = refl
-answer-kept (asked.Found g (asked.unknown n)) = found-kept g (asked.unknown n) _ refl
-answer-kept (asked.Found g (asked.known (broken n))) = found-kept g (asked.known (broken n)) _ refl
-answer-kept (asked.Found g (asked.known (number k z))) =
-    found-kept g (asked.known (number k z)) _ (ap (Option·map (λ (x : Kind). asked.known (number x z))) (kind-back k))
-answer-kept (asked.Found g (asked.known (part k n))) =
-    found-kept g (asked.known (part k n)) _ (ap (Option·map (λ (x : Kind). asked.known (part x n))) (kind-back k))
+-- and there is one way to tell it
+field-one : {fd : Field} {f first : ℕ} → FieldTold fd f first → (f ≡ fieldNumber fd) × (first ≡ start fd)
+field-one told.in-options = (refl, refl)
+field-one told.in-file = (refl, refl)
+field-one told.in-sname = (refl, refl)
 
-pub places-kept : PlacesKept
-places-kept g x = record { start-told = refl; broken-told = λ n e. rw e }
+pieces-one : {x : asked.Wholeness} {several whole : ℕ} → PiecesTold x several whole → (several ≡ plainSeveral x) × (whole ≡ plainWhole x)
+pieces-one told.in-one = (refl, refl)
+pieces-one told.in-several = (refl, refl)
 
-pub extent-kept : ExtentKept
-extent-kept e = refl
+kind-one : {k : Kind} {n : ℕ} → KindTold k n → n ≡ numberOf k
+kind-one told.one-address = refl
+kind-one told.address-list = refl
+kind-one told.address-pairs = refl
+kind-one told.flags = refl
+kind-one told.one-byte = refl
+kind-one told.of-16-bits = refl
+kind-one told.list-of-16-bits = refl
+kind-one told.unsigned-32-bits = refl
+kind-one told.signed-32-bits = refl
+kind-one told.texts = refl
+kind-one told.opaques = refl
+kind-one told.relays = refl
 
-pub address-kept : AddressKept
-address-kept at (asked.next a k) = refl
-address-kept at asked.done = refl
+one-way : {a : asked.Answer} {r : PlainAnswer} → ToldAs a r → r ≡ plainAnswer a
+one-way told.absent = refl
+one-way told.refused = refl
+one-way (told.unknown x y) = rw (field-one x .0, field-one x .1, pieces-one y .0, pieces-one y .1)
+one-way (told.a-number x y k) = rw (field-one x .0, field-one x .1, pieces-one y .0, pieces-one y .1, kind-one k)
+one-way (told.a-part x y k) = rw (field-one x .0, field-one x .1, pieces-one y .0, pieces-one y .1, kind-one k)
+one-way (told.is-broken x y) = rw (field-one x .0, field-one x .1, pieces-one y .0, pieces-one y .1)
 
-pub done-stays : DoneStays
-done-stays at = record { none-given = refl; no-address = refl; same-place = refl }
+pub answer-by-case : AnswerByCase
+answer-by-case a r = ((λ e. subst (ToldAs a) (sym e) (is-told a)), one-way)
 
-pub codes-kept : CodesKept
-unfolding asked.present
-codes-kept m =
-    let r : asked.Present = asked.present m in
-    ap (λ (v : asked.Verdict). record { verdict = v; words = r .words; count = r .count; lowest = r .lowest }) (verdict-back m (readMessage m) refl)
+-- ---- The others
 
-filled-in : (m old : List ℕ) (w : Reading) → readMessage m ≡ w → Kept (asked.recordsIn w old)
-filled-in m old (refused n p) e = declined-kept n p old (λ z. omega (arith, refused-by-a-number m n p e))
-filled-in m old (accepted os) e = given-kept (asked.recordBytes (asked.sheetRecords os)) old
+pub extent-by-case : ExtentByCase
+extent-by-case s n = refl
 
-pub filled-kept : FilledKept
+pub address-by-case : AddressByCase
+address-by-case at a after = (refl, refl)
+
+pub codes-by-case : CodesByCase
+codes-by-case words count lowest n p = (refl, refl)
+
+-- ---- The calls that fill a lent buffer
+
+records-in : (m old : List ℕ) (w : Reading) → readMessage m ≡ w → Kept (asked.recordsIn w old) old
+records-in m old (refused n p) e = declined-kept n p old (λ z. omega (arith, refused-by-a-number m n p e))
+records-in m old (accepted os) e = given-kept (asked.recordBytes (asked.sheetRecords os)) old
+
+pub records-kept : RecordsKept
 unfolding asked.records
-filled-kept m old = filled-in m old (readMessage m) refl
+records-kept m old = records-in m old (readMessage m) refl
 
-copy-of : (ps : List Opt) (old : List ℕ) → Kept (asked.copyFound ps old)
+copy-of : (ps : List Opt) (old : List ℕ) → Kept (asked.copyFound ps old) old
 copy-of [] old = declined-kept 11 0 old (λ z. omega arith)
 copy-of (o ∷ os) old = given-kept (endToEnd (o ∷ os)) old
 
-copy-in : (m old : List ℕ) (c : ℕ) (w : Reading) → readMessage m ≡ w → Kept (asked.copyIn c w old)
+copy-in : (m old : List ℕ) (c : ℕ) (w : Reading) → readMessage m ≡ w → Kept (asked.copyIn c w old) old
 copy-in m old c (refused n p) e = declined-kept n p old (λ z. omega (arith, refused-by-a-number m n p e))
 copy-in m old c (accepted os) e = copy-of (pieces c os) old
 
 pub copy-kept : CopyKept
 unfolding asked.copy
-copy-kept m c old = either-kept (asked.noCode c) (asked.unfilled 10 0 old) (asked.copyIn c (readMessage m) old) (declined-kept 10 0 old (λ z. omega arith)) (copy-in m old c (readMessage m) refl)
+copy-kept m c old = either-kept (asked.noCode c) (asked.unfilled 10 0 old) (asked.copyIn c (readMessage m) old) old (declined-kept 10 0 old (λ z. omega arith)) (copy-in m old c (readMessage m) refl)
 
-vendor-in : (w : Items) (old : List ℕ) → Kept (vendorIn w old)
+vendor-in : (w : Items) (old : List ℕ) → Kept (vendorIn w old) old
 vendor-in (past i) old = declined-kept 17 i old (λ z. omega arith)
 vendor-in (listed xs) old = given-kept (asked.recordBytes (itemRecords xs)) old
 
 pub vendor-kept : VendorKept
 unfolding vendorRecords
 vendor-kept f old = vendor-in (itemsIn (parse 0 0 f)) old
-
-pub verdict-kept : VerdictKept
-verdict-kept asked.Absent = record { refusal-told = refl; place-told = refl }
-verdict-kept (asked.Refused n p) = record { refusal-told = refl; place-told = refl }
-verdict-kept (asked.Found g (asked.unknown n)) = record { refusal-told = refl; place-told = refl }
-verdict-kept (asked.Found g (asked.known (broken n))) = record { refusal-told = refl; place-told = refl }
-verdict-kept (asked.Found g (asked.known (number k z))) = record { refusal-told = refl; place-told = refl }
-verdict-kept (asked.Found g (asked.known (part k n))) = record { refusal-told = refl; place-told = refl }
-
-pub no-origin-told : NoOriginTold
-no-origin-told = (none asked.Absent refl refl refl refl refl, λ n p. none (asked.Refused n p) refl refl refl refl refl)
-  where
-    none : (a : asked.Answer) → plainAnswer a .field ≡ 0 → plainAnswer a .offset ≡ 0 → plainAnswer a .start ≡ 0 → plainAnswer a .whole ≡ 0 → plainAnswer a .several ≡ 0 → FromNoOption a
-    none a f o s w n = record { no-field = f; no-offset = o; no-start = s; no-whole = w; no-several = n }
-
--- "several" is 1 exactly where there are several pieces
-one-or-several-of : (x : asked.Wholeness) → (plainSeveral x ≡ 1 → ⊥) → (plainSeveral x ≡ 0) × (plainWhole x ≡ 0)
-one-or-several-of asked.inOne h = (refl, refl)
-one-or-several-of (asked.inPieces n) h = absurd (h refl)
-
-pub needless-members : NeedlessMembers
-needless-members asked.Absent = record { no-kind = λ a b. refl; no-number = λ a. refl; no-length = λ a b. refl; one-or-several = λ a. (refl, refl) }
-needless-members (asked.Refused n p) = record { no-kind = λ a b. refl; no-number = λ a. refl; no-length = λ a b. refl; one-or-several = λ a. (refl, refl) }
-needless-members (asked.Found g (asked.unknown n)) =
-    record { no-kind = λ a b. refl; no-number = λ a. refl; no-length = λ a b. absurd (a refl); one-or-several = one-or-several-of (g .wholeness) }
-needless-members (asked.Found g (asked.known (broken n))) =
-    record { no-kind = λ a b. refl; no-number = λ a. refl; no-length = λ a b. refl; one-or-several = one-or-several-of (g .wholeness) }
-needless-members (asked.Found g (asked.known (number k z))) =
-    record { no-kind = λ a b. absurd (a refl); no-number = λ a. absurd (a refl); no-length = λ a b. refl; one-or-several = one-or-several-of (g .wholeness) }
-needless-members (asked.Found g (asked.known (part k n))) =
-    record { no-kind = λ a b. absurd (b refl); no-number = λ a. refl; no-length = λ a b. absurd (b refl); one-or-several = one-or-several-of (g .wholeness) }
-
-pub no-place-no-size : NoPlaceNoSize
-no-place-no-size n p m = (refl, refl, λ e. ap placeOf e)

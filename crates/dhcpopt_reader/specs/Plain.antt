@@ -2,18 +2,17 @@
 use mathlib.Core.Path.{_≡_}
 use mathlib.Core.List.{List}
 use mathlib.Core.Bool.{cond}
-use mathlib.Core.Option.{Option, none, some, Option·map}
+use mathlib.Core.Logic.{_↔_}
 use Prim.Native.Nat.{ℕ, _+_, _≤_}
 use lib.Dec.{eqb}
 use lib.IntN.{ℤ, pos}
-use Rattle.options.specs.Message.{Field, options, file, sname, start}
-use Rattle.options.specs.Kinds.{Kind, broken, number, part}
+use Rattle.options.specs.Message.{Field, options, file, sname}
+use Rattle.options.specs.Kinds.{Kind, address, addresses, pairs, flag, octet, number16, numbers16, unsigned32, signed32, text, opaque, relay, broken, number, part}
 use Rattle.options.specs.Answers as asked
 use Rattle.options.specs.Vendor.{vendorRecords}
-use Rattle.filled.specs.Plain.{plainFilled, Kept}
+use Rattle.filled.specs.Plain.{Kept}
 use Rattle.ranges.specs.Rows.{numberOf}
-use Rattle.kinds.specs.Numbers.{kindFrom}
-use Rattle.present.specs.Marked.{numberOf as refusalOf, placeOf, verdictFrom}
+use Rattle.present.specs.Marked.{numberOf as refusalOf, placeOf}
 use Rattle.dhcpopt_reader.specs.declared.PlainAnswer.{PlainAnswer}
 use Rattle.dhcpopt_reader.specs.declared.PlainContent.{PlainContent}
 use Rattle.dhcpopt_reader.specs.declared.PlainExtent.{PlainExtent}
@@ -28,7 +27,7 @@ plainNumber k z = record { status = 3; kind = k; refusal = 0; number = z; length
 abbrev pub plainPart : ℕ → ℕ → ℕ → PlainContent
 plainPart status k n = record { status = status; kind = k; refusal = 0; number = pos 0; length = n }
 
--- status 1 unknown, 3 a kind with its number, 4 a kind with its part, 5 broken; the kinds are numbered 1 to 11
+-- status 1 unknown, 3 a kind with its number, 4 a kind with its part, 5 broken; the kinds are numbered 1 to 11, and 12
 abbrev pub plainContent : asked.Content → PlainContent
 plainContent (asked.unknown n) = plainPart 1 0 n
 plainContent (asked.known (broken n)) = record { status = 5; kind = 0; refusal = n; number = pos 0; length = 0 }
@@ -97,116 +96,79 @@ abbrev pub plainCodes : asked.Present → PlainCodes
 plainCodes r =
     record { words = r .words; count = r .count; lowest = r .lowest; refusal = refusalOf (r .verdict); place = placeOf (r .verdict) }
 
--- ---- Nothing is lost: from what C gets, the answer can be had back. A number that stands for nothing gives none.
+-- ---- Case by case, in the papers' numbers: every member of every answer, 0 where the answer has none
 
--- the field with a number
-abbrev pub fieldAt : ℕ → Option Field
-fieldAt n = cond (eqb n 1) (some options) (cond (eqb n 2) (some file) (cond (eqb n 3) (some sname) none))
+-- "the field that holds its code byte (options, file, sname)" (request 01), by its number and its first byte
+pub data FieldTold : Field → (number first : ℕ) → Type 0 where
+  in-options : FieldTold options 1 240
+  in-file : FieldTold file 2 108
+  in-sname : FieldTold sname 3 44
 
--- in one piece, or in several
-abbrev pub wholenessFrom : PlainAnswer → Option asked.Wholeness
-wholenessFrom a = cond (eqb (a .several) 0) (some asked.inOne) (cond (eqb (a .several) 1) (some (asked.inPieces (a .whole))) none)
+-- "where there are several pieces the answer also says so, with the whole joined length" (request 02): the members several and whole
+pub data PiecesTold : asked.Wholeness → (several whole : ℕ) → Type 0 where
+  in-one : PiecesTold asked.inOne 0 0
+  in-several : {n : ℕ} → PiecesTold (asked.inPieces n) 1 n
 
--- both of two, or none
-abbrev pub both : {A B C : Type 0} → (A → B → C) → Option A → Option B → Option C
-both f none y = none
-both f (some x) none = none
-both f (some x) (some y) = some (f x y)
+-- the kinds in the order of document 01's table
+pub data KindTold : Kind → (number : ℕ) → Type 0 where
+  one-address : KindTold address 1
+  address-list : KindTold addresses 2
+  address-pairs : KindTold pairs 3
+  flags : KindTold flag 4
+  one-byte : KindTold octet 5
+  of-16-bits : KindTold number16 6
+  list-of-16-bits : KindTold numbers16 7
+  unsigned-32-bits : KindTold unsigned32 8
+  signed-32-bits : KindTold signed32 9
+  texts : KindTold text 10
+  opaques : KindTold opaque 11
+  relays : KindTold relay 12
 
-abbrev pub originFrom : PlainAnswer → Option asked.Origin
-originFrom a = both (λ (fd : Field) (w : asked.Wholeness). record { field = fd; offset = a .offset; wholeness = w }) (fieldAt (a .field)) (wholenessFrom a)
+-- the six statuses. `start` "always equals the field's first byte plus offset plus two, at length 0 too" (request 01)
+pub data ToldAs : asked.Answer → PlainAnswer → Type 0 where
+  absent : ToldAs asked.Absent (record { status = 0; kind = 0; refusal = 0; field = 0; number = pos 0; place = 0; offset = 0; start = 0; length = 0; whole = 0; several = 0 })
+  refused : {n p : ℕ} → ToldAs (asked.Refused n p) (record { status = 2; kind = 0; refusal = n; field = 0; number = pos 0; place = p; offset = 0; start = 0; length = 0; whole = 0; several = 0 })
+  unknown : {fd : Field} {x : asked.Wholeness} {f first several whole i n : ℕ} → FieldTold fd f first → PiecesTold x several whole
+      → ToldAs (asked.Found (record { field = fd; offset = i; wholeness = x }) (asked.unknown n))
+      (record { status = 1; kind = 0; refusal = 0; field = f; number = pos 0; place = 0; offset = i; start = first + i + 2; length = n; whole = whole; several = several })
+  a-number : {fd : Field} {x : asked.Wholeness} {k : Kind} {f first several whole kind i : ℕ} {z : ℤ} → FieldTold fd f first → PiecesTold x several whole → KindTold k kind
+      → ToldAs (asked.Found (record { field = fd; offset = i; wholeness = x }) (asked.known (number k z)))
+      (record { status = 3; kind = kind; refusal = 0; field = f; number = z; place = 0; offset = i; start = first + i + 2; length = 0; whole = whole; several = several })
+  a-part : {fd : Field} {x : asked.Wholeness} {k : Kind} {f first several whole kind i n : ℕ} → FieldTold fd f first → PiecesTold x several whole → KindTold k kind
+      → ToldAs (asked.Found (record { field = fd; offset = i; wholeness = x }) (asked.known (part k n)))
+      (record { status = 4; kind = kind; refusal = 0; field = f; number = pos 0; place = 0; offset = i; start = first + i + 2; length = n; whole = whole; several = several })
+  -- 8 or 9, at the "code byte"
+  is-broken : {fd : Field} {x : asked.Wholeness} {f first several whole i n : ℕ} → FieldTold fd f first → PiecesTold x several whole
+      → ToldAs (asked.Found (record { field = fd; offset = i; wholeness = x }) (asked.known (broken n)))
+      (record { status = 5; kind = 0; refusal = n; field = f; number = pos 0; place = first + i; offset = i; start = first + i + 2; length = 0; whole = whole; several = several })
 
-abbrev pub contentFrom : PlainAnswer → Option asked.Content
-contentFrom a =
-    cond (eqb (a .status) 1) (some (asked.unknown (a .length)))
-    (cond (eqb (a .status) 3) (Option·map (λ (k : Kind). asked.known (number k (a .number))) (kindFrom (a .kind)))
-    (cond (eqb (a .status) 4) (Option·map (λ (k : Kind). asked.known (part k (a .length))) (kindFrom (a .kind)))
-    (cond (eqb (a .status) 5) (some (asked.known (broken (a .refusal)))) none)))
+-- what C gets of an answer is that, and no answer is told in another way
+abbrev pub AnswerByCase : Type 0
+AnswerByCase = (a : asked.Answer) (r : PlainAnswer) → r ≡ plainAnswer a ↔ ToldAs a r
 
-abbrev pub answerFrom : PlainAnswer → Option asked.Answer
-answerFrom a =
-    cond (eqb (a .status) 0) (some asked.Absent)
-    (cond (eqb (a .status) 2) (some (asked.Refused (a .refusal) (a .place))) (both asked.Found (originFrom a) (contentFrom a)))
+-- "there a part is a start and a length, 0 and 0 when it is empty"
+abbrev pub ExtentByCase : Type 0
+ExtentByCase = (s n : ℕ) → plainExtent (record { start = s; size = n }) ≡ record { start = s; length = n }
 
-abbrev pub AnswerKept : Type 0
-AnswerKept = (a : asked.Answer) → answerFrom (plainAnswer a) ≡ some a
+-- "each step gives the next address, .., and the reader moved on, or done": then none is given, the address is 0, and the place stays
+abbrev pub AddressByCase : Type 0
+AddressByCase =
+    (at a after : ℕ) → (plainAddress at (asked.next a after) ≡ record { given = 1; address = a; next = after }) × (plainAddress at asked.done ≡ record { given = 0; address = 0; next = at })
 
--- "Start always equals the field's first byte plus offset plus two, at length 0 too" (request 01), and what is broken has the place of its code byte
-pub record PlacesTold (g : asked.Origin) (x : asked.Content) : Type 0 where
-  pub start-told : plainAnswer (asked.Found g x) .start ≡ start (g .field) + g .offset + 2
-  pub broken-told : (n : ℕ) → x ≡ asked.known (broken n) → plainAnswer (asked.Found g x) .place ≡ start (g .field) + g .offset
+-- the codes of a message that passed have refusal and place 0 and 0
+abbrev pub CodesByCase : Type 0
+CodesByCase =
+    (words : List ℕ) (count lowest n p : ℕ)
+    → (plainCodes (record { verdict = asked.passed; words = words; count = count; lowest = lowest }) ≡ record { words = words; count = count; lowest = lowest; refusal = 0; place = 0 })
+    × (plainCodes (record { verdict = asked.refusedWith n p; words = words; count = count; lowest = lowest }) ≡ record { words = words; count = count; lowest = lowest; refusal = n; place = p })
 
-abbrev pub PlacesKept : Type 0
-PlacesKept = (g : asked.Origin) (x : asked.Content) → PlacesTold g x
+-- ---- The calls that fill a lent buffer: no refusal has number 0, and none changes a byte. Their struct is told case by case in crate filled (FilledByCase)
 
-abbrev pub extentFrom : PlainExtent → asked.Extent
-extentFrom e = record { start = e .start; size = e .length }
-
-abbrev pub ExtentKept : Type 0
-ExtentKept = (e : asked.Extent) → extentFrom (plainExtent e) ≡ e
-
-abbrev pub stepFrom : PlainAddress → Option asked.AddressStep
-stepFrom a = cond (eqb (a .given) 1) (some (asked.next (a .address) (a .next))) (cond (eqb (a .given) 0) (some asked.done) none)
-
-abbrev pub AddressKept : Type 0
-AddressKept = (at : ℕ) (s : asked.AddressStep) → stepFrom (plainAddress at s) ≡ some s
-
--- after the last address none is given, the address is 0, and the place stays
-pub record StaysDone (at : ℕ) (a : PlainAddress) : Type 0 where
-  pub none-given : a .given ≡ 0
-  pub no-address : a .address ≡ 0
-  pub same-place : a .next ≡ at
-
-abbrev pub DoneStays : Type 0
-DoneStays = (at : ℕ) → StaysDone at (plainAddress at asked.done)
-
-abbrev pub presentFrom : PlainCodes → asked.Present
-presentFrom c = record { verdict = verdictFrom (c .refusal) (c .place); words = c .words; count = c .count; lowest = c .lowest }
-
--- refusal 0 is no refusal's number
-abbrev pub CodesKept : Type 0
-CodesKept = (m : List ℕ) → presentFrom (plainCodes (asked.present m)) ≡ asked.present m
-
--- refusal 0 is no refusal's number
-abbrev pub FilledKept : Type 0
-FilledKept = (m old : List ℕ) → Kept (asked.records m old)
+abbrev pub RecordsKept : Type 0
+RecordsKept = (m old : List ℕ) → Kept (asked.records m old) old
 
 abbrev pub CopyKept : Type 0
-CopyKept = (m : List ℕ) (c : ℕ) (old : List ℕ) → Kept (asked.copy m c old)
+CopyKept = (m : List ℕ) (c : ℕ) (old : List ℕ) → Kept (asked.copy m c old) old
 
 abbrev pub VendorKept : Type 0
-VendorKept = (f old : List ℕ) → Kept (vendorRecords f old)
-
--- refusal and place are those of a refusal or of what is broken, and 0 and 0 elsewhere
-pub record VerdictTold (a : asked.Answer) : Type 0 where
-  pub refusal-told : plainAnswer a .refusal ≡ refusalOf (asked.verdictOf a)
-  pub place-told : plainAnswer a .place ≡ placeOf (asked.verdictOf a)
-
-abbrev pub VerdictKept : Type 0
-VerdictKept = (a : asked.Answer) → VerdictTold a
-
--- an answer from no option has field, offset and start 0, and tells of no pieces
-pub record FromNoOption (a : asked.Answer) : Type 0 where
-  pub no-field : plainAnswer a .field ≡ 0
-  pub no-offset : plainAnswer a .offset ≡ 0
-  pub no-start : plainAnswer a .start ≡ 0
-  pub no-whole : plainAnswer a .whole ≡ 0
-  pub no-several : plainAnswer a .several ≡ 0
-
-abbrev pub NoOriginTold : Type 0
-NoOriginTold = FromNoOption asked.Absent × ((n p : ℕ) → FromNoOption (asked.Refused n p))
-
--- "a member that an answer does not need is 0", by its status: kind where it is 3 or 4, number where it is 3, length where it is 1 or 4; whole where
--- several is 1, which else is 0
-pub record NeedlessIsZero (a : PlainAnswer) : Type 0 where
-  pub no-kind : (a .status ≡ 3 → ⊥) → (a .status ≡ 4 → ⊥) → a .kind ≡ 0
-  pub no-number : (a .status ≡ 3 → ⊥) → a .number ≡ pos 0
-  pub no-length : (a .status ≡ 1 → ⊥) → (a .status ≡ 4 → ⊥) → a .length ≡ 0
-  pub one-or-several : (a .several ≡ 1 → ⊥) → (a .several ≡ 0) × (a .whole ≡ 0)
-
-abbrev pub NeedlessMembers : Type 0
-NeedlessMembers = (a : asked.Answer) → NeedlessIsZero (plainAnswer a)
-
--- what was given has no place; a refusal gives no byte; codes that are told have no place
-abbrev pub NoPlaceNoSize : Type 0
-NoPlaceNoSize = (n p : ℕ) (m : List ℕ) → (plainFilled (asked.given n) .place ≡ 0) × (plainFilled (asked.declined n p) .size ≡ 0) × (asked.present m .verdict ≡ asked.passed → plainCodes (asked.present m) .place ≡ 0)
+VendorKept = (f old : List ℕ) → Kept (vendorRecords f old) old

@@ -11,9 +11,12 @@ ghost use Rattle.options.specs.Answers.{lookup, dataOf, textOf, addressStep, pr
 ghost use Rattle.message.specs.Fields.{fieldOf};
 ghost use Rattle.lookup.specs.Shown.{contentOf, wholenessOf, originOf, answerOf, extentOf};
 ghost use Rattle.dhcpopt_reader.specs.Plain.{plainNumber, plainPart, plainContent, fieldNumber, plainWhole, plainSeveral, plainFound, plainRefusal, plainAnswer, Near, plainExtent, plainAddress, plainCodes};
+ghost use Rattle.dhcpopt_reader.specs.Plain.{AnswerByCase, ExtentByCase, AddressByCase, CodesByCase, RecordsKept, CopyKept, VendorKept};
 ghost use Rattle.options.specs.Answers as answers;
 ghost use Rattle.filled.specs.Plain.{plainFilled};
 ghost use Rattle.options.specs.Vendor.{vendorRecords};
+ghost use Rattle.options.specs.Relay.{relayRecords};
+ghost use Rattle.dhcpopt_reader.specs.Relay.{plainRelay, RelayIsByCase};
 use address::Cursor;
 use filled::PlainFilled;
 use lookup::Answer;
@@ -64,6 +67,23 @@ pub struct PlainAddress {
     pub next: usize,
 }
 
+// start: 0 where the id is absent; data never start before 2.
+#[repr(C)]
+pub struct PlainId {
+    pub start: usize,
+    pub length: usize,
+}
+
+// refusal: 0 where size bytes of records were given, and the ids are named; else its number, with its place, and no id.
+#[repr(C)]
+pub struct PlainRelay {
+    pub refusal: u32,
+    pub size: usize,
+    pub place: usize,
+    pub circuit: PlainId,
+    pub remote: PlainId,
+}
+
 // refusal: 0 where the message is accepted.
 #[repr(C)]
 pub struct PlainCodes {
@@ -73,6 +93,11 @@ pub struct PlainCodes {
     pub refusal: u32,
     pub place: usize,
 }
+
+// Each struct has the numbers that the rules give each case; no refusal of a call that fills a buffer has number 0, and none changes a byte.
+pub fn proved()
+    ensures { λ _. ⌜ AnswerByCase × ExtentByCase × AddressByCase × CodesByCase × RecordsKept × CopyKept × VendorKept × RelayIsByCase ⌝ }
+{}
 
 pub fn from_unsigned(n: u32) -> i64
     ensures { λ r. ⌜ r ≡ pos n ⌝ }
@@ -133,6 +158,7 @@ fn of_content(x: Content) -> PlainContent
         Content::Signed32(z) => of_number(9, from_signed(z)),
         Content::Text(n) => of_part(4, 10, n),
         Content::Opaque(n) => of_part(4, 11, n),
+        Content::Relay(n) => of_part(4, 12, n),
     }
 }
 
@@ -333,4 +359,27 @@ pub extern "C" fn dhcpopt_vendor_records(bytes: &[u8], out: &mut [u8]) -> PlainF
     ensures { λ r. ⌜ (r ≡ plainFilled (vendorRecords (now (bytes .entry)) (now (out .entry)) .answer)) × (now (out .exit) ≡ vendorRecords (now (bytes .entry)) (now (out .entry)) .buffer) ⌝ }
 {
     filled::plain(vendor::records(bytes, out))
+}
+
+// The sub-options of the bytes of an option 82, each as a record in the buffer out, and circuit id and remote id (document 02, request 09).
+#[no_mangle]
+pub extern "C" fn dhcpopt_relay_records(bytes: &[u8], out: &mut [u8]) -> PlainRelay
+    ensures { λ r. ⌜ (r ≡ plainRelay (relayRecords (now (bytes .entry)) (now (out .entry)))) × (now (out .exit) ≡ relayRecords (now (bytes .entry)) (now (out .entry)) .filled .buffer) ⌝ }
+{
+    let x = relay::records(bytes, out);
+    let given = x.given;
+    let g = filled::plain(given);
+    PlainRelay {
+        refusal: g.refusal,
+        size: g.size,
+        place: g.place,
+        circuit: PlainId {
+            start: x.circuit.start,
+            length: x.circuit.length,
+        },
+        remote: PlainId {
+            start: x.remote.start,
+            length: x.remote.length,
+        },
+    }
 }

@@ -1,21 +1,20 @@
--- What C gets of a grouped sheet tells what the definition gives: no refusal has the number 0. Assumes nothing.
-use mathlib.Core.Path.{_≡_, refl}
+-- No refusal of the calls on grouped sheets has the number 0, and none changes a byte. Assumes nothing.
+use mathlib.Core.Path.{_≡_, refl, subst}
 use mathlib.Core.List.{List}
 use Prim.Native.Nat.{ℕ, _≤_}
 use native.Mathlib.Omega.{arith}
 use Rattle.options.specs.Refusals.{When}
 use Rattle.options.specs.Kinds.{kinds}
-use Rattle.options.specs.Answers.{Given, given, declined, Filled}
+use Rattle.options.specs.Answers.{Given, Filled}
 use Rattle.options.specs.SheetRefusals.{SheetRow, row-12, row-10, row-13, row-7, row-8-9}
 use Rattle.options.specs.Grouped.{choice, move, goBack}
 use Rattle.options.specs.GroupedClaims.{CorrectFillBy, ChosenSheet, ChoiceRow, MoveRow, BackRow}
 use Rattle.options.specs.GroupedClaims as claims
-use Rattle.filled.specs.Plain.{plainFilled, givenFrom, Kept}
-use borrow.Author.Tests.{ne-eqb}
+use Rattle.filled.specs.Plain.{Kept}
 use Rattle.grouped_theorems.proofs.Calls.{choice-is-correct, back-is-correct}
 use Rattle.grouped_theorems.proofs.Moving.{move-is-correct}
 use Rattle.groups.proofs.Numbers.{file-numbered}
-use Rattle.dhcpopt_writer.specs.Grouped.{ChoiceKept, MoveKept, BackKept, NoPlaceNoSize}
+use Rattle.dhcpopt_writer.specs.Grouped.{ChoiceKept, MoveKept, BackKept}
 
 -- ---- No row has the number 0
 
@@ -40,15 +39,13 @@ move-numbered (claims.MoveRow.row-16 h) e = omega arith
 move-numbered (claims.MoveRow.of-writer x l) e = writer-numbered x l e
 move-numbered (claims.MoveRow.row-11 g l) e = omega arith
 
--- ---- So nothing is lost
+-- ---- So refusal 0 stands for none; and a refusal leaves the buffer as it was
 
 module _ (R : ℕ → ℕ → When → Type 0) (B : List ℕ → Type 0) (old : List ℕ) (numbered : (n p : ℕ) (w : When) → R n p w → n ≡ 0 → ⊥) where
-  kept : (w : Filled) → CorrectFillBy R B old (w .answer) (w .buffer) → Kept w
-  kept w c = told (w .answer) c
-    where
-      told : (g : Given) → CorrectFillBy R B old g (w .buffer) → givenFrom (plainFilled g) ≡ g
-      told (given k) c = refl
-      told (declined k q) c = rw (ne-eqb k 0 (numbered k q (c .0 .when) (c .0 .applies)))
+  kept : (w : Filled) → CorrectFillBy R B old (w .answer) (w .buffer) → Kept w old
+  kept w c k q e =
+      let d = subst (λ (g : Given). CorrectFillBy R B old g (w .buffer)) e c in
+      (numbered k q (d .0 .when) (d .0 .applies), d .1)
 
 pub choice-kept : ChoiceKept
 choice-kept f class old a =
@@ -59,6 +56,3 @@ move-kept s old a = kept (MoveRow s old) _ old (λ n p w x. move-numbered x) (mo
 
 pub back-kept : BackKept
 back-kept f old a = kept (BackRow f old) _ old (λ n p w x. back-numbered x) (goBack f old) (back-is-correct f old (goBack f old) a .0 refl)
-
-pub no-place-no-size : NoPlaceNoSize
-no-place-no-size n p = (refl, refl)

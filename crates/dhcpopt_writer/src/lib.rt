@@ -3,10 +3,12 @@ ghost use mathlib.Core.Path.{_≡_};
 ghost use Rattle.options.specs.Kinds.{kinds};
 ghost use Rattle.options.specs.Writing as options;
 ghost use Rattle.options.specs.Vendor.{vendorWrite};
+ghost use Rattle.options.specs.Relay.{relayWrite};
 ghost use Rattle.options.specs.Grouped as grouped;
 ghost use Rattle.groups.specs.Check.{plainChecked};
 ghost use Rattle.filled.specs.Plain.{plainFilled};
-ghost use Rattle.dhcpopt_writer.specs.Plain.{plainWrote, plainOf};
+ghost use Rattle.dhcpopt_writer.specs.Plain.{plainWrote, plainOf, WroteByCase, VendorKept};
+ghost use Rattle.dhcpopt_writer.specs.Grouped.{ChoiceKept, MoveKept, BackKept};
 use filled::PlainFilled;
 use groups::PlainChecked;
 use plan::Choice;
@@ -18,6 +20,11 @@ pub struct PlainWrote {
     pub plan: u32,
     pub place: usize,
 }
+
+// The struct has the numbers that the rules give each case; no refusal of a call that fills a buffer has number 0, and none changes a byte.
+pub fn proved()
+    ensures { λ _. ⌜ WroteByCase × VendorKept × ChoiceKept × MoveKept × BackKept ⌝ }
+{}
 
 fn of_choice(c: Choice) -> PlainWrote
     ensures { λ r. ⌜ r ≡ plainOf c ⌝ }
@@ -50,6 +57,14 @@ pub extern "C" fn dhcpopt_vendor_write(s: &[u8], out: &mut [u8]) -> PlainFilled
     ensures { λ r. ⌜ (r ≡ plainFilled (vendorWrite (now (s .entry)) (now (out .entry)) .answer)) × (now (out .exit) ≡ vendorWrite (now (s .entry)) (now (out .entry)) .buffer) ⌝ }
 {
     filled::plain(vendor_writer::write(s, out))
+}
+
+// The sub-options of the records of a sheet, in the buffer out: what an option 82 is to hold (document 02, request 09).
+#[no_mangle]
+pub extern "C" fn dhcpopt_relay_write(s: &[u8], out: &mut [u8]) -> PlainFilled
+    ensures { λ r. ⌜ (r ≡ plainFilled (relayWrite (now (s .entry)) (now (out .entry)) .answer)) × (now (out .exit) ≡ relayWrite (now (s .entry)) (now (out .entry)) .buffer) ⌝ }
+{
+    filled::plain(relay_writer::write(s, out))
 }
 
 // Checks a grouped file (document 02, request 08).

@@ -1,4 +1,4 @@
--- No answer is lost between the code's cases and the paper's; and FOR CALLERS: what a call gives, by the test that it makes. Assumes nothing.
+-- The code's cases are the paper's; and FOR CALLERS: what a call gives, by the test that it makes. Assumes nothing.
 use mathlib.Core.Path.{_≡_, refl, sym, ap, ap₂, _∙_}
 use mathlib.Core.List.{List, _++_}
 use Prim.Native.Nat.{ℕ, _≤_, _<_}
@@ -8,18 +8,7 @@ use Rattle.options.specs.Answers.{given, declined, Filled, unfilled, filledWith
 use Rattle.options.specs.Answers as answers
 use Rattle.filled.specs.declared.Given.{Given}
 use Rattle.filled.specs.declared.Given.the-variants.{Bytes, Refused}
-use Rattle.filled.specs.Fill.{givenOf, codedGiven, AnswersComeBack, Fills, FillsByCase}
-
-answer-back : (g : Given) → codedGiven (givenOf g) ≡ g
-answer-back (Bytes n) = refl
-answer-back (Refused n p) = refl
-
-answer-there : (g : answers.Given) → givenOf (codedGiven g) ≡ g
-answer-there (given n) = refl
-answer-there (declined n p) = refl
-
-pub answers-come-back : AnswersComeBack
-answers-come-back = (answer-back, answer-there)
+use Rattle.filled.specs.Fill.{givenOf, Fills, FillsByCase}
 
 -- a refusal
 pub fills-unfilled : (w : Filled) (n p : ℕ) (old : List ℕ) → w ≡ unfilled n p old → Fills w (Refused n p) old

@@ -3,7 +3,7 @@ use mathlib.Core.Path.{_≡_}
 use mathlib.Core.List.{List}
 use mathlib.Core.Logic.{_↔_}
 use Prim.Native.Nat.{ℕ}
-use Rattle.options.specs.Answers.{given, declined, Filled, unfilled}
+use Rattle.options.specs.Answers.{given, declined, Filled}
 use Rattle.options.specs.Answers as answers
 use Rattle.filled.specs.declared.Given.{Given}
 use Rattle.filled.specs.declared.Given.the-variants.{Bytes, Refused}
@@ -12,15 +12,6 @@ use Rattle.filled.specs.declared.Given.the-variants.{Bytes, Refused}
 abbrev pub givenOf : Given → answers.Given
 givenOf (Bytes n) = given n
 givenOf (Refused n p) = declined n p
-
--- and back
-abbrev pub codedGiven : answers.Given → Given
-codedGiven (given n) = Bytes n
-codedGiven (declined n p) = Refused n p
-
--- nothing is lost either way (proved in proofs/Answers)
-abbrev pub AnswersComeBack : Type 0
-AnswersComeBack = ((g : Given) → codedGiven (givenOf g) ≡ g) × ((g : answers.Given) → givenOf (codedGiven g) ≡ g)
 
 -- the answer r, and the buffer afterwards, are what the definition gives
 pub record Fills (w : Filled) (r : Given) (after : List ℕ) : Type 0 where
@@ -31,4 +22,4 @@ pub record Fills (w : Filled) (r : Given) (after : List ℕ) : Type 0 where
 abbrev pub FillsByCase : Type 0
 FillsByCase =
     (w : Filled) (after : List ℕ) → ((n : ℕ) → Fills w (Bytes n) after ↔ (w ≡ record { answer = given n; buffer = after }))
-    × ((n p : ℕ) → Fills w (Refused n p) after ↔ (w ≡ unfilled n p after))
+    × ((n p : ℕ) → Fills w (Refused n p) after ↔ (w ≡ record { answer = declined n p; buffer = after }))

@@ -1,8 +1,8 @@
 // What a call gives that fills a lent buffer (document 02, request 02: "it answers how many bytes it gave").
 ghost use mathlib.Core.Path.{_≡_};
 ghost use Rattle.options.specs.Answers.{filledWith};
-ghost use Rattle.filled.specs.Fill.{givenOf, Fills};
-ghost use Rattle.filled.specs.Plain.{plainFilled};
+ghost use Rattle.filled.specs.Fill.{givenOf, Fills, FillsByCase};
+ghost use Rattle.filled.specs.Plain.{plainFilled, FilledByCase};
 
 // How many bytes of the buffer were given, or a refusal.
 pub enum Given {
@@ -17,6 +17,11 @@ pub struct PlainFilled {
     pub size: usize,
     pub place: usize,
 }
+
+// Each case of the answer, in the code and for C, has the numbers that the rules give it.
+pub fn proved()
+    ensures { λ _. ⌜ FillsByCase × FilledByCase ⌝ }
+{}
 
 pub fn plain(g: Given) -> PlainFilled
     ensures { λ r. ⌜ r ≡ plainFilled (givenOf g) ⌝ }

@@ -51,43 +51,23 @@ fn call(which: u8, f: &[u8], class: &[u8], out: &mut [u8]) {
     given(dhcpopt_writer::dhcpopt_ungroup(f, out), out);
 }
 
-// Reads a class as long as `class` and a file as long as `f`, and prints the lines of the call.
-fn body(f: &mut [u8], class: &mut [u8], out: &mut [u8], which: u8, first: u8) {
-    let k = io::read_full(0, class);
-    let n = io::read_full(0, f);
-    console::fill(out, first);
-    call(which, &f[..n], &class[..k], out);
-    word(b"-\n");
-}
-
 // Reads one case and prints its lines; false at the end of the input.
 fn next() -> bool {
-    let mut head = [0u8; 8];
-    if io::read_full(0, &mut head) < 8 {
-        return false;
-    }
-    let room = num::be16(head[1], head[2]) as usize;
-    let letters = num::be16(head[4], head[5]) as usize;
-    let size = num::be16(head[6], head[7]) as usize;
-    if 5000 < room {
-        return false;
-    }
-    if 300 < letters {
-        return false;
-    }
-    if 5000 < size {
-        return false;
-    }
-    let mut f = [0u8; 5000];
     let mut class = [0u8; 300];
+    let mut f = [0u8; 5000];
     let mut out = [0u8; 5000];
-    body(
-        &mut f[..size],
-        &mut class[..letters],
+    let c = console::next(&mut class, &mut f, &mut out);
+    if !c.there {
+        return false;
+    }
+    let room = c.room;
+    call(
+        c.call,
+        part(&f, 0, c.size),
+        part(&class, 0, c.letters),
         &mut out[..room],
-        head[0],
-        head[3],
     );
+    word(b"-\n");
     true
 }
 

@@ -205,7 +205,8 @@ among-split r [] ys h = inr h
 among-split r (x ∷ xs) ys (inl e) = inl (inl e)
 among-split r (x ∷ xs) ys (inr h) = ⊎-elim (λ (z : Among r xs). inl (inr z)) (λ (z : Among r ys). inr z) (among-split r xs ys h)
 
-both-passed : (v w : Verdict) → andThen v w ≡ passed → (v ≡ passed) × (w ≡ passed)
+-- where both have passed
+pub both-passed : (v w : Verdict) → andThen v w ≡ passed → (v ≡ passed) × (w ≡ passed)
 both-passed passed w e = (refl, e)
 both-passed (refusedWith n p) w e = clash (cc)
 

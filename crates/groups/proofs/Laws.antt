@@ -116,7 +116,7 @@ body-some (suc d) p at s h = let z : d ≡ suc d - 1 = omega arith in ap (λ (k 
 -- ---- Past the records, one by one
 
 -- it goes on
-past-from : (at : ℕ) (w : Walk) → at ≤ pastRecords at w
+pub past-from : (at : ℕ) (w : Walk) → at ≤ pastRecords at w
 unfolding pastRecords
 past-from at allRead = omega arith
 past-from at (cutAt p) = omega arith
@@ -222,18 +222,23 @@ module _ (s : List ℕ) (at d : ℕ) where
 
 -- ---- Past the records that stand one after the other
 
+-- a verdict on a walk that no record changes which is passed
+abbrev pub Passes-over : (Walk → Verdict) → Type 0
+Passes-over v = (p : ℕ) (r : Rec) (rest : Walk) → among (r .tag) (0 ∷ 52 ∷ 255 ∷ []) ≡ false → v (readAt p r rest) ≡ v rest
+
 -- from a walk at i one comes to the place j by records alone, whose bytes are those between
 pub record Passing (s : List ℕ) (d i j : ℕ) (rs : List Rec) : Type 0 where
   pub on : i ≤ j
   pub stops : Stops s j
   pub within : i ≤ length s → j ≤ length s
   pub same-fault : faultOf (itemsFrom s d i) ≡ faultOf (itemsFrom s d j)
+  pub same-verdict : (v : Walk → Verdict) → Passes-over v → v (recordsFrom i 0 (drop i s)) ≡ v (recordsFrom j 0 (drop j s))
   pub before : (class : List ℕ) → chosen class (itemsFrom s d i) ≡ rs ++ chosen class (itemsFrom s d j)
   pub bytes : drop i s ≡ recordBytes rs ++ drop j s
 
 pub passing-here : (s : List ℕ) (d i : ℕ) → Stops s i → Passing s d i i []
 unfolding recordBytes
-passing-here s d i h = record { on = omega arith; stops = h; within = λ l. l; same-fault = refl; before = λ class. refl; bytes = refl }
+passing-here s d i h = record { on = omega arith; stops = h; within = λ l. l; same-fault = refl; same-verdict = λ v h. refl; before = λ class. refl; bytes = refl }
 
 module _ (s : List ℕ) (i d tag size : ℕ) (e : Record tag size ≡ stepOf (recordsFrom i 0 (drop i s))) (n : tag ≡ 0 → ⊥) (m : tag ≡ 52 → ⊥) (k : tag ≡ 255 → ⊥) where
   one-record : itemsFrom s d i ≡ rec i (record { tag = tag; body = take size (drop (i + 3) s) }) (itemsFrom s d (i + 3 + size))
@@ -270,6 +275,7 @@ module _ (s : List ℕ) (i d tag size : ℕ) (e : Record tag size ≡ stepOf (re
         stops = p .stops;
         within = λ l. p .within (item-room s i d tag size e);
         same-fault = ap faultOf one-record ∙ p .same-fault;
+        same-verdict = λ v h. ap v (steps.stepped s i (Record tag size) e .0) ∙ h i _ _ (rw (ne-eqb tag 0 n, ne-eqb tag 52 m, ne-eqb tag 255 k)) ∙ p .same-verdict v h;
         before = λ class. ap (chosen class) one-record ∙ ap (λ (l : List Rec). record { tag = tag; body = take size (drop (i + 3) s) } ∷ l) (p .before class);
         bytes = record-bytes b (recordBytes rs) (drop j s) (p .bytes) ∙ sym (append-assoc (tag ∷ length (take size (drop (i + 3) s)) / 256 ∷ length (take size (drop (i + 3) s)) % 256 ∷ take size (drop (i + 3) s)) (recordBytes rs) (drop j s));
       }

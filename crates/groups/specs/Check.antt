@@ -1,9 +1,7 @@
 -- A VERDICT ON A GROUPED FILE, as the code's cases, and as plain numbers for C. Assumes nothing.
 use mathlib.Core.Path.{_≡_}
 use mathlib.Core.List.{List}
-use mathlib.Core.Bool.{cond}
 use Prim.Native.Nat.{ℕ}
-use lib.Dec.{eqb}
 use Rattle.options.specs.KindClaims.{AllBytes}
 use Rattle.options.specs.Answers.{Verdict, passed, refusedWith}
 use Rattle.options.specs.Grouped.{check}
@@ -30,16 +28,9 @@ abbrev pub plainChecked : Verdict → PlainChecked
 plainChecked passed = record { refusal = 0; place = 0 }
 plainChecked (refusedWith n p) = record { refusal = n; place = p }
 
-abbrev pub verdictFrom : PlainChecked → Verdict
-verdictFrom a = cond (eqb (a .refusal) 0) passed (refusedWith (a .refusal) (a .place))
-
--- nothing is lost: what C gets tells what the definition gives, of a file of bytes; refusal 0 means no fault
+-- no refusal has number 0, so that 0 can stand for none; of a file of bytes
 abbrev pub CheckKept : Type 0
-CheckKept = (f : List ℕ) → AllBytes f → verdictFrom (plainChecked (check f)) ≡ check f
-
--- where there is no fault, the place is 0
-abbrev pub NoPlace : Type 0
-NoPlace = plainChecked passed .place ≡ 0
+CheckKept = (f : List ℕ) (n p : ℕ) → AllBytes f → check f ≡ refusedWith n p → n ≡ 0 → ⊥
 
 -- each case with its own numbers, in the code and for C
 abbrev pub CheckedByCase : Type 0

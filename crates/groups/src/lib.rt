@@ -6,7 +6,7 @@ ghost use lib.ListN.{drop};
 ghost use Rattle.options.specs.SheetWalk.{recordsFrom};
 ghost use Rattle.options.specs.Grouped.{none, groupOf, body, faultOf};
 ghost use Rattle.options.specs.Grouped as grouped;
-ghost use Rattle.groups.specs.Check.{checkedOf, verdictOf, plainChecked};
+ghost use Rattle.groups.specs.Check.{checkedOf, verdictOf, plainChecked, VerdictsComeBack, CheckedByCase, CheckKept};
 ghost use Rattle.groups.specs.Parts.{membersAt, outermostSize, itemGiven, pastRecords, Stops};
 use sheet::Step;
 
@@ -22,6 +22,11 @@ pub struct PlainChecked {
     pub refusal: u32,
     pub place: usize,
 }
+
+// Each case of the verdict, in the code and for C, has the numbers that the rules give it, and none of a refusal is 0.
+pub fn proved()
+    ensures { λ _. ⌜ CheckedByCase × CheckKept × VerdictsComeBack ⌝ }
+{}
 
 // What a place in a group's body has: nothing more; an item without a fault, and the place behind it; the first fault of one.
 pub enum Item {

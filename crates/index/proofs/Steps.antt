@@ -60,7 +60,7 @@ no-mark {idx} m c e = (
 
 -- ---- what is noted, and then what is left
 
-over-none : (v : ℕ) → v ≡ overFrom v []
+pub over-none : (v : ℕ) → v ≡ overFrom v []
 unfolding overload items
 over-none v = go (eqb v 0) refl
   where
@@ -86,13 +86,13 @@ right-value (v ∷ []) e = go (eqb v 0) refl e
 right-value (v ∷ w ∷ r) e = clash (cc)
 
 module _ (fd : Field) (over i : ℕ) (x : Rec) (p : Parse) where
-  abbrev met : Bool
+  abbrev pub met : Bool
   met = not (eqb over 0)
 
-  abbrev here : Opt
+  abbrev pub here : Opt
   here = record { field = fd; offset = i; item = x }
 
-  judge-stops : (overStop (isOptions fd) over (x .tag) (x .body) ≡ 0 → ⊥)
+  pub judge-stops : (overStop (isOptions fd) over (x .tag) (x .body) ≡ 0 → ⊥)
       → judge fd met (found i x p) ≡ refused (numberOf (overStop (isOptions fd) over (x .tag) (x .body))) (start fd + i)
   unfolding judge
   judge-stops h = go (eqb (x .tag) 52) (cond (isOptions fd) (not (right52 (x .body))) true) (eqb over 0) h
@@ -105,11 +105,11 @@ module _ (fd : Field) (over i : ℕ) (x : Rec) (p : Parse) where
       go true false false z = refl
       go false b c z = absurd (z refl)
 
-  record Passes (over′ : ℕ) : Type 0 where
-    more-is : judge fd met (found i x p) ≡ more here (judge fd (not (eqb over′ 0)) p)
-    over-is : (os : List Opt) → overFrom over′ os ≡ overFrom over (here ∷ os)
+  pub record Passes (over′ : ℕ) : Type 0 where
+    pub more-is : judge fd met (found i x p) ≡ more here (judge fd (not (eqb over′ 0)) p)
+    pub over-is : (os : List Opt) → overFrom over′ os ≡ overFrom over (here ∷ os)
 
-  judge-passes : overStop (isOptions fd) over (x .tag) (x .body) ≡ 0 → Passes (overAfter over (x .tag) (x .body))
+  pub judge-passes : overStop (isOptions fd) over (x .tag) (x .body) ≡ 0 → Passes (overAfter over (x .tag) (x .body))
   unfolding judge overload items
   judge-passes h = go (eqb (x .tag) 52) (cond (isOptions fd) (not (right52 (x .body))) true) (eqb over 0) refl refl refl (right (isOptions fd) (right52 (x .body)) refl) h
     where
@@ -219,7 +219,7 @@ enters-then true fd m idx os mid e r last n = go (judge fd false (parse 0 0 (byt
     go (accepted ps) x = (x .0, x .1 ∙ ap (λ (l : List ℕ). noteAll l ps) e ∙ note-append idx os ps)
     go (refused n p) x = x
 
-refused-stays : (b : Bool) (fd : Field) (m : List ℕ) (n p : ℕ) → extend b fd m (refused n p) ≡ refused n p
+pub refused-stays : (b : Bool) (fd : Field) (m : List ℕ) (n p : ℕ) → extend b fd m (refused n p) ≡ refused n p
 refused-stays true fd m n p = refl
 refused-stays false fd m n p = refl
 

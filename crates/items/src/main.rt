@@ -1,23 +1,9 @@
-// Reads vendor information, and sheets of its items, from standard input, and prints what the calls that C links give of each (tests/items/README.md).
+// Reads vendor information and relay information, and sheets of their items, from standard input, and prints what the calls that C links give of each (tests/items/README.md).
 use console::one;
 use console::word;
+use dhcpopt_reader::PlainRelay;
 use filled::PlainFilled;
 use message::part;
-
-// Whether a and b have the same bytes.
-fn same(a: &[u8], b: &[u8]) -> bool {
-    if a.len() != b.len() {
-        return false;
-    }
-    let mut i: usize = 0;
-    while i < a.len() {
-        if a[i] != b[i] {
-            return false;
-        }
-        i = i + 1;
-    }
-    true
-}
 
 // What was given: the bytes, or the refusal; and a sum of the bytes of the buffer past them.
 fn shown(g: PlainFilled, out: &[u8]) {
@@ -32,18 +18,23 @@ fn shown(g: PlainFilled, out: &[u8]) {
     word(b"\n");
 }
 
-// Whether what was written reads as the sheet.
-fn back(sheet: &[u8], bytes: &[u8]) {
-    let mut out = [0u8; 4096];
-    let g = dhcpopt_reader::dhcpopt_vendor_records(bytes, &mut out);
+// Whether what was read back, or its refusal, is the sheet.
+fn same(sheet: &[u8], g: PlainFilled, out: &[u8]) {
     if g.refusal != 0 {
         console::two(b"back refused", g.refusal as usize, g.place);
-    } else if same(sheet, part(&out, 0, g.size)) {
+    } else if check::same(sheet, part(out, 0, g.size)) {
         word(b"back same");
     } else {
         word(b"back differs");
     }
     word(b"\n");
+}
+
+// Whether the items that were written read as the sheet.
+fn back(sheet: &[u8], bytes: &[u8]) {
+    let mut out = [0u8; 4096];
+    let g = dhcpopt_reader::dhcpopt_vendor_records(bytes, &mut out);
+    same(sheet, g, &out);
 }
 
 fn read(bytes: &[u8], out: &mut [u8]) {
@@ -63,39 +54,81 @@ fn write(sheet: &[u8], out: &mut [u8]) {
     word(b"-\n");
 }
 
-// The lines of one case: 0 reads items, any other call writes them.
+fn records(r: &PlainRelay) -> PlainFilled {
+    PlainFilled {
+        refusal: r.refusal,
+        size: r.size,
+        place: r.place,
+    }
+}
+
+// A circuit id or remote id: its start and length, or that it is absent; no data start at 0.
+fn id(name: &[u8], start: usize, length: usize) {
+    if start == 0 {
+        word(name);
+        word(b" absent");
+    } else {
+        console::two(name, start, length);
+    }
+    word(b"\n");
+}
+
+// Whether the sub-options that were written read as the sheet.
+fn relay_back(sheet: &[u8], bytes: &[u8]) {
+    let mut out = [0u8; 4096];
+    let r = dhcpopt_reader::dhcpopt_relay_records(bytes, &mut out);
+    same(sheet, records(&r), &out);
+}
+
+fn relay_read(bytes: &[u8], out: &mut [u8]) {
+    let r = dhcpopt_reader::dhcpopt_relay_records(bytes, out);
+    shown(records(&r), out);
+    if r.refusal == 0 {
+        id(b"circuit", r.circuit.start, r.circuit.length);
+        id(b"remote", r.remote.start, r.remote.length);
+    }
+    word(b"-\n");
+}
+
+fn relay_write(sheet: &[u8], out: &mut [u8]) {
+    let g = dhcpopt_writer::dhcpopt_relay_write(sheet, out);
+    let given = g.refusal == 0;
+    let size = g.size;
+    shown(g, out);
+    if given {
+        relay_back(sheet, part(out, 0, size));
+    }
+    word(b"-\n");
+}
+
+// The lines of one case: 0 reads items, 1 writes them; 2 reads sub-options, any other call writes them.
 fn case(call: u8, bytes: &[u8], out: &mut [u8]) {
     if call == 0 {
         read(bytes, out);
         return;
     }
-    write(bytes, out);
-}
-
-// Reads as many bytes as `bytes` has and prints their lines.
-fn body(bytes: &mut [u8], out: &mut [u8], first: u8, call: u8) {
-    let n = io::read_full(0, bytes);
-    console::fill(out, first);
-    case(call, &bytes[..n], out);
+    if call == 1 {
+        write(bytes, out);
+        return;
+    }
+    if call == 2 {
+        relay_read(bytes, out);
+        return;
+    }
+    relay_write(bytes, out);
 }
 
 // Reads one case and prints its lines; false at the end of the input.
 fn next() -> bool {
-    let mut head = [0u8; 6];
-    if io::read_full(0, &mut head) < 6 {
-        return false;
-    }
-    let room = num::be16(head[1], head[2]) as usize;
-    let size = num::be16(head[4], head[5]) as usize;
-    if 5000 < room {
-        return false;
-    }
-    if 5000 < size {
-        return false;
-    }
-    let mut out = [0u8; 5000];
+    let mut name = [0u8; 1];
     let mut bytes = [0u8; 5000];
-    body(&mut bytes[..size], &mut out[..room], head[3], head[0]);
+    let mut out = [0u8; 5000];
+    let c = console::next(&mut name, &mut bytes, &mut out);
+    if !c.there {
+        return false;
+    }
+    let room = c.room;
+    case(c.call, part(&bytes, 0, c.size), &mut out[..room]);
     true
 }
 

@@ -2,5 +2,6 @@
 pub mod ByKind
 mod Entries
 pub mod Numbering
+pub mod Relay
 mod Rules
 pub mod Walks

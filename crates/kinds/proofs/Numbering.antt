@@ -9,7 +9,7 @@ use borrow.Author.Tests.{ne-eqb}
 use lib.Dec.{eqb}
 use lib.ListN.{length}
 use Rattle.options.specs.SheetWalk.{isBroken}
-use Rattle.options.specs.Kinds.{Kind, address, addresses, pairs, flag, octet, number16, numbers16, unsigned32, signed32, text, opaque, Value, broken, number, part, Row, rows, rowOf, kindBy, kindOf, fault, unless, meaning, judged, judgedBy, kinds}
+use Rattle.options.specs.Kinds.{Kind, address, addresses, pairs, flag, octet, number16, numbers16, unsigned32, signed32, text, opaque, relay, Value, broken, number, part, Row, rows, rowOf, kindBy, kindOf, fault, unless, meaning, judged, judgedBy, kinds}
 use Rattle.ranges.specs.Rows.{numberOf, rowFrom, rowNumber}
 use Rattle.ranges.proofs.Kept.{numbers-keep-the-row, no-number, from-kind}
 use Rattle.kinds.proofs.Rules.{opaque-else}
@@ -27,6 +27,7 @@ named unsigned32 = refl
 named signed32 = refl
 named text = refl
 named opaque = refl
+named relay = refl
 
 pub numbered : (k : Kind) → numberOf k ≡ 0 → ⊥
 numbered k e =
@@ -54,6 +55,7 @@ kind-back unsigned32 = refl
 kind-back signed32 = refl
 kind-back text = refl
 kind-back opaque = refl
+kind-back relay = refl
 
 pub numbers-keep-the-kind : NumbersKeepTheKind
 numbers-keep-the-kind none = refl
@@ -64,8 +66,8 @@ abbrev pub Outside : ℕ → ℕ → ℕ → Type 0
 Outside a zero n = Unit {0}
 Outside a (suc k) n = Outside a k n × (n ≡ a + k → ⊥)
 
-pub else-opaque : (n : ℕ) → Outside 1 10 n → kindAt n ≡ opaque
-else-opaque n h =
+pub else-opaque : (n : ℕ) → Outside 1 10 n → (n ≡ 12 → ⊥) → kindAt n ≡ opaque
+else-opaque n h x =
     rw (
       ne-eqb n 1 (h .0 .0 .0 .0 .0 .0 .0 .0 .0 .1),
       ne-eqb n 2 (h .0 .0 .0 .0 .0 .0 .0 .0 .1),
@@ -77,6 +79,7 @@ else-opaque n h =
       ne-eqb n 8 (h .0 .0 .1),
       ne-eqb n 9 (h .0 .1),
       ne-eqb n 10 (h .1),
+      ne-eqb n 12 x,
     )
 
 -- what a kind makes of data that keeps its rules is not broken, and so no fault
@@ -93,6 +96,7 @@ unbroken unsigned32 d = refl
 unbroken signed32 d = refl
 unbroken text d = refl
 unbroken opaque d = refl
+unbroken relay d = refl
 
 no-fault : (v : Value) → isBroken v ≡ false → numberOfFault v ≡ 0
 no-fault (broken n) e = absurd (let z : _≡_ {A = ℕ} 0 1 = cc in omega arith)
@@ -199,6 +203,10 @@ fault-in (some r) d = by (fault r d)
     by : (n : ℕ) → n ≡ numberOfFault (unless n (meaning (r .kind) d))
     by zero = sym (meant (r .kind) d)
     by (suc n) = refl
+
+pub fault-none : (c : ℕ) (d : List ℕ) → rowNumber c ≡ 0 → 0 ≡ faultNumbered (rowNumber c) d
+unfolding faultNumbered
+fault-none c d e = sym (ap (λ (n : ℕ). faultIn (rowAt n) d) e ∙ ap (λ (o : Option Row). faultIn o d) row-zero)
 
 pub fault-numbered : (c : ℕ) (d : List ℕ) → faultNumbered (rowNumber c) d ≡ faultOf c d
 unfolding faultOf faultNumbered

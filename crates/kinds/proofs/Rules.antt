@@ -10,7 +10,7 @@ use lib.Dec.{T, eqb, eqb→eq}
 use lib.ListN.{getD}
 use mir.Facts.{and-yes}
 use Rattle.options.specs.Reading.{among}
-use Rattle.options.specs.Kinds.{Row, rows, Lengths, exactly, multiples, Values, any, between, oneOf, atLeast, risingFrom, destinations, ascii, valueFault, orNine, first16}
+use Rattle.options.specs.Kinds.{Row, rows, Lengths, exactly, multiples, Values, any, between, oneOf, atLeast, risingFrom, destinations, ascii, suboptions, valueFault, orNine, first16}
 use Rattle.ranges.specs.Rows.{numberOf, rowFrom}
 use Rattle.kinds.specs.Numbers.{kindAt, orElse, rowAt, lengthsOf, valuesOf, breaksValue, valueFaultIn, isList, numberFault}
 use Rattle.kinds.specs.Parts.{keepsOctet, octetFits, keepsNumber16, number16Fits}
@@ -67,6 +67,7 @@ asList (some (atLeast a)) = 4 ∷ a ∷ []
 asList (some (risingFrom a)) = 5 ∷ a ∷ []
 asList (some destinations) = 6 ∷ []
 asList (some ascii) = 7 ∷ []
+asList (some suboptions) = 8 ∷ []
 
 -- and back
 abbrev fromList : List ℕ → Option Values
@@ -75,7 +76,7 @@ fromList (t ∷ xs) =
     cond (eqb t 1) (some any)
     (cond (eqb t 2) (some (between (getD xs 0 0) (getD xs 1 0)))
     (cond (eqb t 3) (some (oneOf xs))
-    (cond (eqb t 4) (some (atLeast (getD xs 0 0))) (cond (eqb t 5) (some (risingFrom (getD xs 0 0))) (cond (eqb t 6) (some destinations) (some ascii))))))
+    (cond (eqb t 4) (some (atLeast (getD xs 0 0))) (cond (eqb t 5) (some (risingFrom (getD xs 0 0))) (cond (eqb t 6) (some destinations) (cond (eqb t 7) (some ascii) (some suboptions)))))))
 
 list-back : (o : Option Values) → fromList (asList o) ≡ o
 list-back none = refl
@@ -86,6 +87,7 @@ list-back (some (atLeast a)) = refl
 list-back (some (risingFrom a)) = refl
 list-back (some destinations) = refl
 list-back (some ascii) = refl
+list-back (some suboptions) = refl
 
 same-values : (a b : Option Values) → T (sameList (asList a) (asList b)) → b ≡ a
 same-values a b t = sym (list-back b) ∙ ap fromList (sym (same-list (asList a) (asList b) t)) ∙ list-back a
@@ -111,6 +113,7 @@ isAny (some (atLeast a)) = false
 isAny (some (risingFrom a)) = false
 isAny (some destinations) = false
 isAny (some ascii) = false
+isAny (some suboptions) = false
 
 abbrev pub unruled : Bool → Option Values → Bool
 unruled true v = true
@@ -126,6 +129,7 @@ no-rule (some (atLeast a)) d t = absurd t
 no-rule (some (risingFrom a)) d t = absurd t
 no-rule (some destinations) d t = absurd t
 no-rule (some ascii) d t = absurd t
+no-rule (some suboptions) d t = absurd t
 
 abbrev pub isOctet : Option Values → Bool
 isOctet none = true
@@ -136,6 +140,7 @@ isOctet (some (atLeast a)) = false
 isOctet (some (risingFrom a)) = false
 isOctet (some destinations) = false
 isOctet (some ascii) = false
+isOctet (some suboptions) = false
 
 octet-fault : (v : Option Values) (d : List ℕ) → T (isOctet v) → breaksValue v d ≡ orNine (keepsOctet v (getD d 0 0))
 unfolding valueFault
@@ -147,6 +152,7 @@ octet-fault (some (atLeast a)) d t = absurd t
 octet-fault (some (risingFrom a)) d t = absurd t
 octet-fault (some destinations) d t = absurd t
 octet-fault (some ascii) d t = absurd t
+octet-fault (some suboptions) d t = absurd t
 
 abbrev pub isNumber16 : Option Values → Bool
 isNumber16 none = true
@@ -157,6 +163,7 @@ isNumber16 (some (atLeast a)) = true
 isNumber16 (some (risingFrom a)) = false
 isNumber16 (some destinations) = false
 isNumber16 (some ascii) = false
+isNumber16 (some suboptions) = false
 
 number16-fault : (v : Option Values) (d : List ℕ) → T (isNumber16 v) → breaksValue v d ≡ orNine (keepsNumber16 v (first16 d))
 unfolding valueFault
@@ -168,6 +175,7 @@ number16-fault (some (atLeast a)) d t = refl
 number16-fault (some (risingFrom a)) d t = absurd t
 number16-fault (some destinations) d t = absurd t
 number16-fault (some ascii) d t = absurd t
+number16-fault (some suboptions) d t = absurd t
 
 -- ---- Where a test holds
 

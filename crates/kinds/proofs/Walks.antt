@@ -1,5 +1,5 @@
 -- What a walk from place i on sees: of a text from its end, of numbers and of addresses from the start. Assumes nothing.
-use mathlib.Core.Path.{_≡_, refl, sym, ap, _∙_}
+use mathlib.Core.Path.{_≡_, refl, sym, ap, ap₂, _∙_}
 use mathlib.Core.Bool.{true, false}
 use mathlib.Core.List.{List, [], _∷_, _++_}
 use Prim.Native.Nat.{ℕ, zero, suc, _+_, _-_, _≤_, _<_}
@@ -8,6 +8,8 @@ use native.Mathlib.Omega.{arith}
 use borrow.Author.Tests.{le-leb, lt-leb, eq-eqb, ne-eqb}
 use lib.ListN.{length, getD, take, drop, length-take, length-drop, drop-of-length-le}
 use lib.Seq.{take-suc, length-take-le, getD-take, getD-drop, drop-drop, drop-cons}
+use Rattle.options.specs.SubOptions.{subOptions, fillFault}
+use Rattle.theorems.proofs.SubOptionRow.{past-head, past-data, stands-in}
 use Rattle.options.specs.Kinds.{trimmed, longer, allText, fromTo, pair16, word32, first16, first32, numbersOf, addressesOf, rising, noZeroFirst}
 
 -- ---- The end of a text
@@ -159,3 +161,44 @@ unfolding noZeroFirst
 first-next f i g h =
     let e : i + 4 + 4 ≡ i + 8 = omega arith in
     rw (addresses-next f i (omega arith), addresses-next f (i + 4) (omega arith), ne-eqb (whole f i) 0 h, e)
+
+-- ---- The sub-options from a place on
+
+pub subs-end : (d : List ℕ) (at : ℕ) → length d ≤ at → fillFault (subOptions at 0 (drop at d)) ≡ 0
+unfolding subOptions fillFault
+subs-end d at h = rw (drop-of-length-le d {i = at} h)
+
+module _ (d : List ℕ) (at : ℕ) (h : at < length d) where
+  sub-head : drop at d ≡ getD d at 0 ∷ drop (suc at) d
+  sub-head = drop-cons d at 0 h
+
+  pub subs-cut : length d - at < 2 → fillFault (subOptions at 0 (drop at d)) ≡ 8
+  unfolding fillFault
+  subs-cut l = rw (sub-head, drop-of-length-le d {i = suc at} (omega arith), past-head at (getD d at 0))
+
+module _ (d : List ℕ) (at : ℕ) (h : at + 1 < length d) where
+  abbrev size : ℕ
+  size = getD d (at + 1) 0
+
+  sub-heads : drop at d ≡ getD d at 0 ∷ size ∷ drop (at + 2) d
+  sub-heads =
+      let e : suc at ≡ at + 1 = omega arith in
+      let f : suc (at + 1) ≡ at + 2 = omega arith in
+      drop-cons d at 0 (omega arith) ∙ ap (λ (xs : List ℕ). getD d at 0 ∷ xs) (ap (λ (i : ℕ). drop i d) e ∙ drop-cons d (at + 1) 0 h ∙ ap (λ (i : ℕ). size ∷ drop i d) f)
+
+  behind-head : length (drop (at + 2) d) ≡ length d - (at + 2)
+  behind-head = length-drop (at + 2) d
+
+  pub subs-past : length d - at < size + 2 → fillFault (subOptions at 0 (drop at d)) ≡ 8
+  unfolding fillFault
+  subs-past l = rw (sub-heads, past-data at (getD d at 0) size (drop (at + 2) d) (omega (arith, behind-head)))
+
+  pub subs-next : size + 2 ≤ length d - at → fillFault (subOptions at 0 (drop at d)) ≡ fillFault (subOptions (at + (size + 2)) 0 (drop (at + (size + 2)) d))
+  unfolding fillFault
+  subs-next l =
+      let e : at + (2 + size) ≡ at + (size + 2) = omega arith in
+      let f : at + 2 + size ≡ at + (size + 2) = omega arith in
+      let g : drop size (drop (at + 2) d) ≡ drop (at + (size + 2)) d = drop-drop size (at + 2) d ∙ ap (λ (i : ℕ). drop i d) f in
+      ap (λ (xs : List ℕ). fillFault (subOptions at 0 xs)) sub-heads
+      ∙ ap fillFault (stands-in at (getD d at 0) size (drop (at + 2) d) (omega (arith, behind-head)))
+      ∙ ap₂ (λ (i : ℕ) (xs : List ℕ). fillFault (subOptions i 0 xs)) e g

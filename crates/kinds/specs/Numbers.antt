@@ -1,4 +1,4 @@
--- THE KINDS AS NUMBERS: 1 to 11 in the order of document 01's table, 0 for a code without a row; and the number of a fault, 8 or 9, or 0 for none.
+-- THE KINDS AS NUMBERS: 1 to 11 in the order of document 01's table, 12 for relay information, 0 for a code without a row; and the number of a fault, 8 or 9, or 0 for none.
 -- Assumes nothing.
 use mathlib.Core.Path.{_≡_}
 use mathlib.Core.List.{List, []}
@@ -8,7 +8,7 @@ use mathlib.Core.Option.{Option, none, some}
 use Prim.Native.Nat.{ℕ, _%_, _≤_}
 use lib.Dec.{eqb}
 use Rattle.options.specs.Reading.{either}
-use Rattle.options.specs.Kinds.{Kind, address, addresses, pairs, flag, octet, number16, numbers16, unsigned32, signed32, text, opaque, Lengths, isLength, Values, any, between, oneOf, atLeast, risingFrom, destinations, ascii, valueFault, Row, rows, kindBy, fault, Value, broken, number, part, kinds}
+use Rattle.options.specs.Kinds.{Kind, address, addresses, pairs, flag, octet, number16, numbers16, unsigned32, signed32, text, opaque, relay, Lengths, isLength, Values, any, between, oneOf, atLeast, risingFrom, destinations, ascii, suboptions, valueFault, Row, rows, kindBy, fault, Value, broken, number, part, kinds}
 use Rattle.options.specs.Answers.{isText}
 use Rattle.ranges.specs.Rows.{numberOf, rowFrom}
 
@@ -28,7 +28,7 @@ kindAt n =
     (cond (eqb n 7) numbers16
     (cond (eqb n 8) unsigned32
     (cond (eqb n 9) signed32
-    (cond (eqb n 10) text opaque)))))))))
+    (cond (eqb n 10) text (cond (eqb n 12) relay opaque))))))))))
 
 -- the kind that a number stands for: none for 0, and for a number that no kind has
 abbrev pub kindFrom : ℕ → Option Kind
@@ -43,9 +43,9 @@ kindFrom n =
     (cond (eqb n 8) (some unsigned32)
     (cond (eqb n 9) (some signed32)
     (cond (eqb n 10) (some text)
-    (cond (eqb n 11) (some opaque) none))))))))))
+    (cond (eqb n 11) (some opaque) (cond (eqb n 12) (some relay) none)))))))))))
 
--- a number loses nothing of the row, and is one of 1 to 11, or 0 for none
+-- a number loses nothing of the row, and is one of 1 to 11 or 12, or 0 for none
 abbrev pub NumbersKeepTheKind : Type 0
 NumbersKeepTheKind = (o : Option Kind) → kindFrom (kindNumber o) ≡ o
 
@@ -112,6 +112,7 @@ ofEach (atLeast least) = false
 ofEach (risingFrom least) = true
 ofEach destinations = true
 ofEach ascii = true
+ofEach suboptions = true
 
 -- the rows by which every data byte is looked at: by their rule of value, or for the meaning, where a text ends; for the meaning of another kind no more
 -- than the first four are looked at
@@ -122,6 +123,10 @@ isList (some r) = either (ofEach (r .values)) (isText (r .kind))
 -- the rule of value in two parts: that of these rows, and that of the others
 abbrev pub listFault : Option Row → List ℕ → ℕ
 listFault o d = cond (isList o) (valueFaultIn o d) 0
+
+-- the first part but for relay information, kind 12
+abbrev pub shortListFault : ℕ → List ℕ → ℕ
+shortListFault n d = cond (eqb (n % 16) 12) 0 (listFault (rowAt n) d)
 
 abbrev pub numberFault : Option Row → List ℕ → ℕ
 numberFault o d = cond (isList o) 0 (valueFaultIn o d)

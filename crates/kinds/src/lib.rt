@@ -1,10 +1,11 @@
 // The kinds of options (document 01, The kinds, by code): the kind of a code, the rules of length and of value.
 ghost use mathlib.Core.Path.{_≡_};
 ghost use mathlib.Core.List.{[], _∷_};
-ghost use Prim.Native.Nat.{_<_, _%_};
+ghost use Prim.Native.Nat.{_<_, _≤_, _%_};
 ghost use Rattle.options.specs.Reading.{among};
 ghost use Rattle.options.specs.Kinds.{kindOf, multiples, isLength, addressesOf, numbersOf, rising, noZeroFirst, trimmed, fromTo, textFits, orNine};
-ghost use Rattle.kinds.specs.Numbers.{kindNumber, rowAt, kindNumbered, faultOf, faultNumbered, lengthFits, valueFaultIn, isList, listFault, numberFault};
+ghost use Rattle.options.specs.SubOptions.{subOptions, fillFault};
+ghost use Rattle.kinds.specs.Numbers.{kindNumber, rowAt, kindNumbered, faultOf, faultNumbered, lengthFits, valueFaultIn, isList, listFault, shortListFault, numberFault, NumbersKeepTheKind, FaultsKeepTheNumber};
 ghost use Rattle.kinds.specs.Parts.{octetFits, number16Fits};
 
 // The kinds as numbers (document 01, The kinds): its rows in their order, and 0 for a code that has none.
@@ -31,6 +32,12 @@ pub const SIGNED32: u8 = 9;
 pub const TEXT: u8 = 10;
 
 pub const OPAQUE: u8 = 11;
+
+// Relay information (document 02, request 09).
+pub const RELAY: u8 = 12;
+
+// The number given for a sub-option that runs past the data.
+const PAST: u8 = 8;
 
 // The numbers of the rows (crates/ranges/specs/Rows.antt) have that of their kind in the low four bits. The first row of a kind has the number of the kind;
 // these are the others, by their codes.
@@ -99,7 +106,31 @@ pub fn text_fits(t: &[u8]) -> bool
 pub fn fault(c: u8, d: &[u8]) -> u8
     ensures { λ r. ⌜ r ≡ faultOf c (now (d .entry)) ⌝ }
 {
+    if ranges::LAST < c {
+        return above_fault(c, d);
+    }
     fault_in(ranges::row(c), d)
+}
+
+// The same, of a code above those of the ranges.
+fn above_fault(c: u8, d: &[u8]) -> u8
+    requires { ⌜ 77 ≤ c ⌝ }
+    ensures { λ r. ⌜ r ≡ faultOf c (now (d .entry)) ⌝ }
+{
+    if c == ranges::RELAY {
+        return relay_fault(d);
+    }
+    0
+}
+
+// The same, of relay information.
+pub fn relay_fault(d: &[u8]) -> u8
+    ensures { λ r. ⌜ r ≡ faultOf 82 (now (d .entry)) ⌝ }
+{
+    if !stepped(d.len(), 2, 1) {
+        return PAST;
+    }
+    suboptions_fault(d)
 }
 
 // The same, by the row's number.
@@ -138,6 +169,7 @@ pub fn length_fits(row: u8, n: usize) -> bool
             }
             stepped(n, 1, 1)
         }
+        RELAY => stepped(n, 2, 1),
         _ => true,
     }
 }
@@ -158,7 +190,10 @@ fn value_fault(row: u8, d: &[u8]) -> u8
     ensures { λ r. ⌜ r ≡ valueFaultIn (rowAt row) (now (d .entry)) ⌝ }
 {
     if is_list(row) {
-        return list_fault(row, d);
+        if row % 16 == RELAY {
+            return suboptions_fault(d);
+        }
+        return short_list_fault(row, d);
     }
     number_fault(row, d)
 }
@@ -171,6 +206,7 @@ pub fn is_list(row: u8) -> bool
         PAIRS => row == ROW_33,
         NUMBERS16 => true,
         TEXT => true,
+        RELAY => true,
         _ => false,
     }
 }
@@ -178,6 +214,16 @@ pub fn is_list(row: u8) -> bool
 // The rule of value of those rows.
 pub fn list_fault(row: u8, d: &[u8]) -> u8
     ensures { λ r. ⌜ r ≡ listFault (rowAt row) (now (d .entry)) ⌝ }
+{
+    if row % 16 == RELAY {
+        return suboptions_fault(d);
+    }
+    short_list_fault(row, d)
+}
+
+// The same but for relay information, which is passed: with its loop in it the compiler would not put this into its callers.
+pub fn short_list_fault(row: u8, d: &[u8]) -> u8
+    ensures { λ r. ⌜ r ≡ shortListFault row (now (d .entry)) ⌝ }
 {
     match row % 16 {
         PAIRS => {
@@ -289,3 +335,26 @@ fn destinations_fit(d: &[u8]) -> bool
     }
     true
 }
+
+// 82: whether its sub-options, each a code, a length and so many bytes, fill the data exactly; 8 where one runs past.
+pub fn suboptions_fault(d: &[u8]) -> u8
+    ensures { λ r. ⌜ r ≡ fillFault (subOptions 0 0 (now (d .entry))) ⌝ }
+{
+    let mut at: usize = 0;
+    while at < d.len() {
+        if d.len() - at < 2 {
+            return PAST;
+        }
+        let size = num::wide(d[at + 1]) + 2;
+        if d.len() - at < size {
+            return PAST;
+        }
+        at = at + size;
+    }
+    0
+}
+
+// The statements of specs/ hold.
+pub fn proved()
+    ensures { λ _. ⌜ NumbersKeepTheKind × FaultsKeepTheNumber ⌝ }
+{}

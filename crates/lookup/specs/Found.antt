@@ -1,19 +1,19 @@
 -- What the code's own functions are held to: no public contract rests on this. Assumes nothing.
 use mathlib.Core.Path.{_≡_}
-use mathlib.Core.Bool.{Bool, cond}
+use mathlib.Core.Bool.{cond}
 use mathlib.Core.List.{List, _++_}
 use Prim.Native.Nat.{ℕ, _+_, _-_, _≤_}
 use lib.Dec.{eqb, leb}
 use lib.IntN.{pos}
 use lib.ListN.{length, getD, take, drop}
 use Rattle.options.specs.Message.{options, file, sname, start}
-use Rattle.options.specs.Kinds.{Kind, address, addresses, pairs, flag, octet, number16, numbers16, unsigned32, signed32, text, opaque, Value, broken, number, part, unless, first16, first32, twosComplement, trimmed, meaning, judged, judgedBy}
+use Rattle.options.specs.Kinds.{Kind, address, addresses, pairs, flag, octet, number16, numbers16, unsigned32, signed32, text, opaque, relay, Value, broken, number, part, unless, first16, first32, twosComplement, trimmed, meaning, judged, judgedBy}
 use Rattle.options.specs.Answers as asked
-use Rattle.ranges.specs.Rows.{rowNumber}
 use Rattle.kinds.specs.Numbers.{kindAt, rowAt, kindNumbered, lengthFits}
 use Rattle.message.specs.declared.Scanned.{Scanned}
 use Rattle.cursor.specs.Cursor.{firstPosition}
 use Rattle.gather.specs.Joined.{joinedFrom}
+pub use Rattle.lookup.specs.Known.{knownRow}
 
 -- an option whose code byte stands at the place p: the last field that begins there or before
 abbrev pub originAt : ℕ → asked.Wholeness → asked.Origin
@@ -26,10 +26,6 @@ originAt p x =
 unfoldable pub valueOf : ℕ → List ℕ → asked.Content
 unfolding meaning
 valueOf k d = asked.known (meaning (kindAt k) d)
-
--- the number of the row of the code c; 0 where it has none, or is not in the known set
-abbrev pub knownRow : (ℕ → Bool) → ℕ → ℕ
-knownRow set c = cond (set c) (rowNumber c) 0
 
 -- what is answered of a code whose row has the number n, 0 for none, with the data d
 unfoldable pub contentBy : ℕ → List ℕ → asked.Content
@@ -50,6 +46,7 @@ meaningOf unsigned32 n d = number unsigned32 (pos (first32 d))
 meaningOf signed32 n d = number signed32 (twosComplement (first32 d))
 meaningOf text n d = part text (trimmed d)
 meaningOf opaque n d = part opaque n
+meaningOf relay n d = part relay n
 
 -- the verdict on them of the row with a number, by its rule of length and by what its rule of value says, a fault's number or 0
 unfoldable pub judgedOf : ℕ → ℕ → ℕ → List ℕ → Value

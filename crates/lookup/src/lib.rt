@@ -14,7 +14,7 @@ ghost use Rattle.buffer.specs.Written.{Written};
 ghost use Rattle.text.specs.Text.{Puts};
 ghost use Rattle.gather.specs.Joined.{joinedFrom};
 ghost use Rattle.filled.specs.Fill.{Fills};
-ghost use Rattle.lookup.specs.Shown.{contentOf, wholenessOf, originOf, answerOf, extentOf};
+ghost use Rattle.lookup.specs.Shown.{contentOf, wholenessOf, originOf, answerOf, extentOf, ContentByCase, OriginByCase, AnswerByCase, ExtentByCase};
 ghost use Rattle.kinds.specs.Numbers.{kindAt, rowAt, isList, listFault, numberFault};
 ghost use Rattle.lookup.specs.Found.{originAt, valueOf, knownRow, contentBy, meaningOf, judgedOf, severalAt, sizeAt, dataAt, InPieces, clipped};
 use filled::Given;
@@ -37,6 +37,7 @@ pub enum Content {
     Signed32(i32),
     Text(usize),
     Opaque(usize),
+    Relay(usize),
 }
 
 // Whether an option comes in one piece, or in several, which then have so many bytes together (document 02, request 02).
@@ -66,6 +67,11 @@ pub struct Extent {
     pub len: usize,
 }
 
+// Each name stands for the answer that the rules have under it, with its numbers.
+pub fn proved()
+    ensures { λ _. ⌜ ContentByCase × OriginByCase × AnswerByCase × ExtentByCase ⌝ }
+{}
+
 // What data that keeps the rules of its kind means.
 fn value(k: u8, d: &[u8]) -> Content
     ensures { λ r. ⌜ contentOf r ≡ valueOf k (now (d .entry)) ⌝ }
@@ -81,6 +87,7 @@ fn value(k: u8, d: &[u8]) -> Content
         kinds::UNSIGNED32 => Content::Unsigned32(num::first32(d)),
         kinds::SIGNED32 => Content::Signed32(num::signed(num::first32(d))),
         kinds::TEXT => Content::Text(kinds::text_len(d)),
+        kinds::RELAY => Content::Relay(d.len()),
         _ => Content::Opaque(d.len()),
     }
 }
@@ -125,6 +132,7 @@ fn joined_value(k: u8, n: usize, d: &[u8]) -> Content
         kinds::UNSIGNED32 => Content::Unsigned32(num::first32(d)),
         kinds::SIGNED32 => Content::Signed32(num::signed(num::first32(d))),
         kinds::TEXT => Content::Text(kinds::text_len(d)),
+        kinds::RELAY => Content::Relay(n),
         _ => Content::Opaque(n),
     }
 }

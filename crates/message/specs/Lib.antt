@@ -4,6 +4,7 @@ pub mod Part
 pub mod Active
 pub mod Scan
 pub mod Items
+pub mod Judging
 -- Internals
 pub mod Walk
 pub mod Walking

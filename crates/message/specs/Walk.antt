@@ -1,17 +1,18 @@
 -- THE WALK OF ONE FIELD over a set of watched codes: the twin of `judge` that the code follows. An option whose code is not watched is passed over; what an end
 -- means is the caller's. No public contract rests on this: crate message ties it to `readMessage`. Assumes nothing.
 use mathlib.Core.Path.{_≡_}
-use mathlib.Core.Bool.{Bool, true, false, cond, not}
+use mathlib.Core.Bool.{Bool, true, false, cond}
 use mathlib.Core.List.{List, [], _∷_}
 use Prim.Native.Nat.{ℕ, _+_, _-_, _≤_, _<_}
 use lib.Dec.{eqb, ltb}
 use lib.ListN.{length, getD, drop}
 use Rattle.options.specs.Message.{Rec}
-use Rattle.options.specs.Reading.{Parse, ended, ranOut, beyond, found, parse, right52}
+use Rattle.options.specs.Reading.{Parse, ended, ranOut, beyond, found, parse}
 use Rattle.options.specs.CodeSet.{marked, withMark}
 use Rattle.message.specs.declared.Kept.{Kept}
 use Rattle.message.specs.declared.Walked.{Walked}
 use Rattle.message.specs.declared.Stop.{Stop}
+pub use Rattle.message.specs.Judging.{overStop, overAfter}
 
 -- what is done only where options are marked
 abbrev pub tallied : Bool → ℕ → ℕ
@@ -32,14 +33,6 @@ pub record Walk : Type 0 where
   pub run : Run
   pub end : ℕ
   pub place : ℕ
-
--- 3: option 52 where it may not stand, "or with a length not 1 or a value not 1 to 3"; 4: a second one
-abbrev pub overStop : Bool → ℕ → ℕ → List ℕ → ℕ
-overStop main over c d = cond (eqb c 52) (cond (cond main (not (right52 d)) true) 3 (cond (eqb over 0) 0 4)) 0
-
--- the value of option 52, the first that stands
-abbrev pub overAfter : ℕ → ℕ → List ℕ → ℕ
-overAfter over c d = cond (eqb c 52) (cond (eqb over 0) (getD d 0 0) over) over
 
 -- what is kept after a watched option whose code byte stands at the offset i of a field that begins at base: "Every answer names the first piece"
 abbrev pub keptAfter : ℕ → Kept → ℕ → ℕ → ℕ → List ℕ → Kept

@@ -3,22 +3,18 @@ use mathlib.Core.Path.{_≡_}
 use mathlib.Core.Bool.{Bool, true, false, cond}
 use mathlib.Core.List.{List, [], _∷_}
 use Prim.Native.Nat.{ℕ, _+_, _≤_, _<_}
-use lib.ListN.{length, take, drop}
-use lib.Dec.{ltb, eqb}
-use Rattle.options.specs.Message.{Opt, Field, options, file, sname, start, bytes, cookie, shortest, longest}
-use Rattle.options.specs.Reading.{same, parse, isOptions, fileIn, snameIn, readMessage, accepted}
+use lib.ListN.{length, drop}
+use lib.Dec.{eqb}
+use Rattle.options.specs.Message.{Opt, Field, options, file, sname, start, bytes}
+use Rattle.options.specs.Reading.{parse, isOptions, fileIn, snameIn, readMessage, accepted}
 use Rattle.options.specs.CodeSet.{marked, withMark}
 use Rattle.options.specs.Vendor.{Item, Items, listed, past, itemsIn}
 use Rattle.message.specs.declared.Walked.{Walked}
 use Rattle.message.specs.declared.Scanned.{Scanned}
 use Rattle.message.specs.Active.{activeIn}
+pub use Rattle.message.specs.Judging.{unfitOf, numberOf}
 use Rattle.message.specs.Scan.{refusedAt, scanIn}
 use Rattle.message.specs.Walk.{Run, Walk, begun, done, walkOf, walkedOf}
-
--- 1, 2 or 3 where length or cookie are refused, else 0
-abbrev pub unfitOf : List ℕ → ℕ
-unfitOf m =
-    cond (ltb (length m) shortest) 1 (cond (ltb longest (length m)) 2 (cond (same (take 4 (drop 236 m)) cookie) 0 3))
 
 -- the field that is read after another: 0 options, 1 file, 2 sname, 3 none
 abbrev pub afterFile : ℕ → ℕ
@@ -29,10 +25,6 @@ afterOptions over = cond (fileIn over) 1 (afterFile over)
 
 abbrev pub nextField : ℕ → ℕ → ℕ
 nextField turn over = cond (eqb over 0) 3 (cond (eqb turn 0) (afterOptions over) (cond (eqb turn 1) (afterFile over) 3))
-
--- the number of the refusal that an end is
-abbrev pub numberOf : ℕ → ℕ
-numberOf end = cond (eqb end 1) 5 (cond (eqb end 2) 4 (cond (eqb end 3) 6 7))
 
 abbrev pub scannedOf : Bool → Walked → Scanned
 scannedOf marks s =

@@ -8,7 +8,7 @@ ghost use Rattle.options.specs.Message.{start, bytes, cookie};
 ghost use Rattle.options.specs.Reading.{same, parse, right52, fileIn, snameIn};
 ghost use Rattle.options.specs.CodeSet.{marked};
 ghost use Rattle.options.specs.Vendor.{itemsIn};
-ghost use Rattle.message.specs.Fields.{fieldOf};
+ghost use Rattle.message.specs.Fields.{fieldOf, FieldsComeBack};
 ghost use Rattle.message.specs.Active.{activeIn};
 ghost use Rattle.message.specs.Part.{partAt};
 ghost use Rattle.message.specs.Scan.{refusedAt, scanOf, Surveys};
@@ -677,3 +677,8 @@ pub fn items(f: &[u8]) -> Measured
         size: s.used + s.count,
     }
 }
+
+// The statement of specs/ holds.
+pub fn proved()
+    ensures { λ _. ⌜ FieldsComeBack ⌝ }
+{}

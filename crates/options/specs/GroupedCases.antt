@@ -1,7 +1,7 @@
 -- CASES of grouped sheets (document 02, request 08): a table for the calls that fill a buffer, and one for the check, each proved by a single statement in crate grouped_theorems. Assumes nothing.
 use mathlib.Core.Path.{_≡_}
 use mathlib.Core.List.{List, [], _∷_, _++_, map}
-use Prim.Native.Nat.{ℕ}
+use Prim.Native.Nat.{ℕ, zero, suc}
 use lib.ListN.{replicate}
 use Rattle.options.specs.Answers.{Verdict, passed, refusedWith, Given, given, declined, Filled}
 use Rattle.options.specs.Grouped.{check, choice, move, goBack}
@@ -53,6 +53,15 @@ named = 0 ∷ 0 ∷ 5 ∷ 1 ∷ 65 ∷ 23 ∷ 0 ∷ 0 ∷ []
 abbrev pub namedAB : List ℕ
 namedAB = 0 ∷ 0 ∷ 6 ∷ 2 ∷ 65 ∷ 66 ∷ 23 ∷ 0 ∷ 0 ∷ []
 
+-- an outermost group ABC with record 23
+abbrev pub namedABC : List ℕ
+namedABC = 0 ∷ 0 ∷ 7 ∷ 3 ∷ 65 ∷ 66 ∷ 67 ∷ 23 ∷ 0 ∷ 0 ∷ []
+
+-- four deep: nameless, nameless, one with n bytes of name, the byte x or none, and in it one named A with record 23
+abbrev pub deep : ℕ → ℕ → List ℕ
+deep zero x = 0 ∷ 0 ∷ 17 ∷ 0 ∷ 0 ∷ 0 ∷ 13 ∷ 0 ∷ 0 ∷ 0 ∷ 9 ∷ 0 ∷ 0 ∷ 0 ∷ 5 ∷ 1 ∷ 65 ∷ 23 ∷ 0 ∷ 0 ∷ []
+deep (suc n) x = 0 ∷ 0 ∷ 18 ∷ 0 ∷ 0 ∷ 0 ∷ 14 ∷ 0 ∷ 0 ∷ 0 ∷ 10 ∷ 1 ∷ x ∷ 0 ∷ 0 ∷ 5 ∷ 1 ∷ 65 ∷ 23 ∷ 0 ∷ 0 ∷ []
+
 -- nothing is given: the lent bytes stay
 abbrev pub nothing : Call → Case
 nothing c = record { call = c; room = 3; answer = given 0; bytes = replicate 3 170 }
@@ -77,6 +86,24 @@ cases =
     ∷ nothing (choose namedAB (65 ∷ []))
     ∷ nothing (choose namedAB (65 ∷ 67 ∷ []))
     ∷ record { call = choose namedAB (65 ∷ 66 ∷ []); room = 3; answer = given 3; bytes = 23 ∷ 0 ∷ 0 ∷ [] }
+    -- not but for a byte in its middle, its last byte, a high bit, trailing zeros or trailing blanks
+    ∷ record { call = choose namedABC (65 ∷ 66 ∷ 67 ∷ []); room = 3; answer = given 3; bytes = 23 ∷ 0 ∷ 0 ∷ [] }
+    ∷ nothing (choose namedABC (65 ∷ 64 ∷ 67 ∷ []))
+    ∷ nothing (choose namedABC (65 ∷ 66 ∷ 66 ∷ []))
+    ∷ nothing (choose namedABC (65 ∷ 66 ∷ 195 ∷ []))
+    ∷ nothing (choose namedABC (193 ∷ 66 ∷ 67 ∷ []))
+    ∷ nothing (choose namedABC (65 ∷ 66 ∷ 67 ∷ 0 ∷ []))
+    ∷ nothing (choose namedABC (65 ∷ 66 ∷ 67 ∷ 32 ∷ []))
+    ∷ nothing (choose (0 ∷ 0 ∷ 6 ∷ 2 ∷ 65 ∷ 0 ∷ 23 ∷ 0 ∷ 0 ∷ []) (65 ∷ []))
+    ∷ nothing (choose (0 ∷ 0 ∷ 6 ∷ 2 ∷ 65 ∷ 32 ∷ 23 ∷ 0 ∷ 0 ∷ []) (65 ∷ []))
+    ∷ nothing (choose (0 ∷ 0 ∷ 5 ∷ 1 ∷ 0 ∷ 23 ∷ 0 ∷ 0 ∷ []) [])
+    -- the name of the innermost of four counts, and that of each group around it
+    ∷ record { call = choose (deep 0 0) (65 ∷ []); room = 3; answer = given 3; bytes = 23 ∷ 0 ∷ 0 ∷ [] }
+    ∷ nothing (choose (deep 0 0) (66 ∷ []))
+    ∷ nothing (choose (deep 0 0) [])
+    ∷ record { call = choose (deep 1 65) (65 ∷ []); room = 3; answer = given 3; bytes = 23 ∷ 0 ∷ 0 ∷ [] }
+    ∷ nothing (choose (deep 1 66) (65 ∷ []))
+    ∷ nothing (choose (deep 1 66) (66 ∷ []))
     ∷ record { call = choose four []; room = 3; answer = given 3; bytes = 23 ∷ 0 ∷ 0 ∷ [] }
     ∷ kept (choose five []) 3 21 16
     ∷ kept (choose [] []) 3 20 0
@@ -141,6 +168,11 @@ checks =
     ∷ refused (0 ∷ 0 ∷ 2 ∷ 0 ∷ []) 20 0
     ∷ refused five 21 16
     ∷ refused (0 ∷ 0 ∷ 16 ∷ 0 ∷ 0 ∷ 0 ∷ 12 ∷ 0 ∷ 0 ∷ 0 ∷ 8 ∷ 0 ∷ 0 ∷ 0 ∷ 4 ∷ 0 ∷ 0 ∷ 0 ∷ 0 ∷ []) 20 16
+    -- a fifth group that is too short for its name, or runs past: 20 and not 21, at one item
+    ∷ refused (0 ∷ 0 ∷ 17 ∷ 0 ∷ 0 ∷ 0 ∷ 13 ∷ 0 ∷ 0 ∷ 0 ∷ 9 ∷ 0 ∷ 0 ∷ 0 ∷ 5 ∷ 0 ∷ 0 ∷ 0 ∷ 1 ∷ 1 ∷ []) 20 16
+    ∷ refused (0 ∷ 0 ∷ 17 ∷ 0 ∷ 0 ∷ 0 ∷ 13 ∷ 0 ∷ 0 ∷ 0 ∷ 9 ∷ 0 ∷ 0 ∷ 0 ∷ 5 ∷ 0 ∷ 0 ∷ 0 ∷ 2 ∷ 0 ∷ []) 20 16
+    -- a fifth group that is whole: 21, whatever it holds
+    ∷ refused (0 ∷ 0 ∷ 20 ∷ 0 ∷ 0 ∷ 0 ∷ 16 ∷ 0 ∷ 0 ∷ 0 ∷ 12 ∷ 0 ∷ 0 ∷ 0 ∷ 8 ∷ 0 ∷ 0 ∷ 0 ∷ 4 ∷ 0 ∷ 255 ∷ 0 ∷ 9 ∷ []) 21 16
     ∷ refused (0 ∷ 0 ∷ 9 ∷ 0 ∷ 0 ∷ 0 ∷ 5 ∷ 1 ∷ 65 ∷ 255 ∷ 0 ∷ 0 ∷ []) 10 9
     ∷ refused (0 ∷ 0 ∷ 6 ∷ 0 ∷ 52 ∷ 0 ∷ 0 ∷ 7 ∷ 0 ∷ []) 10 4
     ∷ refused (0 ∷ 0 ∷ 4 ∷ 0 ∷ 52 ∷ 0 ∷ 1 ∷ 7 ∷ []) 20 4

@@ -8,7 +8,7 @@ use Prim.Native.Nat.{ℕ, _≤_, _<_}
 use lib.ListN.{length, take, drop}
 use Rattle.options.specs.Refusals.{When}
 use Rattle.options.specs.Kinds.{Table, Proper, kinds}
-use Rattle.options.specs.KindClaims.{AllBytes}
+use Rattle.options.specs.KindClaims.{OneOf, AllBytes}
 use Rattle.options.specs.Answers.{Verdict, passed, refusedWith, Given, given, declined, Filled, recordBytes, isKnown, records}
 use Rattle.options.specs.SheetRefusals.{SheetRow}
 use Rattle.options.specs.Writing.{wrote, writer}
@@ -80,6 +80,24 @@ pub data BackRow (f old : List ℕ) : ℕ → ℕ → When → Type 0 where
 
 abbrev pub BackIsCorrect : Type 0
 BackIsCorrect = (f old : List ℕ) (w : Filled) → AllBytes f → goBack f old ≡ w ↔ CorrectFill (BackRow f old) (Plain f) old w
+
+-- ---- Room enough, and the numbers
+
+-- "A room of DHCPOPT_LONGEST_SHEET is always enough", 4,096 bytes, for the choice and the way back, and for the move one of DHCPOPT_LONGEST_GROUPED, 4,100:
+-- so include/dhcpopt.h promises. None is then refused by 11
+abbrev pub GroupedRoomIsEnough : Type 0
+GroupedRoomIsEnough =
+    ((f class old : List ℕ) (p : ℕ) → AllBytes f → 4096 ≤ length old → choice f class old .answer ≡ declined 11 p → ⊥)
+    × ((s old : List ℕ) (p : ℕ) → AllBytes s → 4100 ≤ length old → move s old .answer ≡ declined 11 p → ⊥)
+    × ((f old : List ℕ) (p : ℕ) → AllBytes f → 4096 ≤ length old → goBack f old .answer ≡ declined 11 p → ⊥)
+
+-- "The calls on grouped sheets give 10, 11, 12, 16 and 20 to 22": so include/dhcpopt.h promises, call by call
+abbrev pub GroupedNumbers : Type 0
+GroupedNumbers =
+    ((f : List ℕ) (n p : ℕ) → AllBytes f → check f ≡ refusedWith n p → OneOf n (10 ∷ 16 ∷ 20 ∷ 21 ∷ []))
+    × ((f class old : List ℕ) (n p : ℕ) → AllBytes f → choice f class old .answer ≡ declined n p → OneOf n (10 ∷ 11 ∷ 16 ∷ 20 ∷ 21 ∷ []))
+    × ((s old : List ℕ) (n p : ℕ) → AllBytes s → move s old .answer ≡ declined n p → OneOf n (10 ∷ 11 ∷ 12 ∷ 16 ∷ []))
+    × ((f old : List ℕ) (n p : ℕ) → AllBytes f → goBack f old .answer ≡ declined n p → OneOf n (10 ∷ 11 ∷ 16 ∷ 20 ∷ 21 ∷ 22 ∷ []))
 
 -- ---- There and back
 

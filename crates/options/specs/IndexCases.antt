@@ -4,10 +4,10 @@ use mathlib.Core.List.{List, [], _∷_, _++_, map}
 use Prim.Native.Nat.{ℕ}
 use lib.IntN.{pos}
 use lib.ListN.{length, getD, replicate}
-use Rattle.options.specs.Message.{Field, options, file, sname, cookie}
+use Rattle.options.specs.Message.{Field, options, file, sname}
 use Rattle.options.specs.Kinds.{kinds, octet, text, opaque, unsigned32, broken, number, part}
 use Rattle.options.specs.CodeSet.{marked}
-use Rattle.options.specs.Answers.{Content, unknown, known, Answer, Absent, Refused, Found, given, unfilled}
+use Rattle.options.specs.Answers.{Content, unknown, known, Answer, Absent, Refused, Found, given, declined}
 use Rattle.options.specs.Cases.{messageOf, allCodes, whole, inSeveral}
 use Rattle.options.specs.Index.{build, lookupBy}
 
@@ -34,7 +34,7 @@ at fd i x = Found (whole fd i) x
 abbrev pub crafted : List ℕ
 crafted =
     replicate 44 12 ++ (52 ∷ 2 ∷ 1 ∷ 1 ∷ 52 ∷ 1 ∷ 4 ∷ []) ++ replicate 9 0 ++ (12 ∷ 47 ∷ []) ++ replicate 38 0
-    ++ (12 ∷ 6 ∷ 97 ∷ 98 ∷ 99 ∷ 100 ∷ 101 ∷ 12 ∷ []) ++ replicate 127 0 ++ (12 ∷ cookie) ++ (12 ∷ 0 ∷ [])
+    ++ (12 ∷ 6 ∷ 97 ∷ 98 ∷ 99 ∷ 100 ∷ 101 ∷ 12 ∷ []) ++ replicate 127 0 ++ (12 ∷ 99 ∷ 130 ∷ 83 ∷ 99 ∷ []) ++ (12 ∷ 0 ∷ [])
 
 abbrev pub throughCrafted : ℕ → ℕ → Answer
 throughCrafted e c = lookupBy kinds (marked allCodes) crafted (replicate 256 e) c
@@ -42,12 +42,12 @@ throughCrafted e c = lookupBy kinds (marked allCodes) crafted (replicate 256 e) 
 abbrev pub IndexCasesHold : Type 0
 IndexCasesHold =
     -- [R18, I5] 255 and 257 numbers: their count; after 1, and before the reader's 5
-    (build message (replicate 255 7) ≡ unfilled 18 255 (replicate 255 7))
-    × (build message (replicate 257 7) ≡ unfilled 18 257 (replicate 257 7))
-    × (build [] (replicate 255 7) ≡ unfilled 1 0 (replicate 255 7))
-    × (build (messageOf [] []) (replicate 255 7) ≡ unfilled 18 255 (replicate 255 7))
-    × (build (messageOf [] []) (replicate 256 7) ≡ unfilled 5 240 (replicate 256 7))
-    × (build (replicate 240 0) (replicate 255 7) ≡ unfilled 3 236 (replicate 255 7))
+    (build message (replicate 255 7) ≡ record { answer = declined 18 255; buffer = replicate 255 7 })
+    × (build message (replicate 257 7) ≡ record { answer = declined 18 257; buffer = replicate 257 7 })
+    × (build [] (replicate 255 7) ≡ record { answer = declined 1 0; buffer = replicate 255 7 })
+    × (build (messageOf [] []) (replicate 255 7) ≡ record { answer = declined 18 255; buffer = replicate 255 7 })
+    × (build (messageOf [] []) (replicate 256 7) ≡ record { answer = declined 5 240; buffer = replicate 256 7 })
+    × (build (replicate 240 0) (replicate 255 7) ≡ record { answer = declined 3 236; buffer = replicate 255 7 })
     -- [I1, I2] the entries; "how many bytes it gave"
     × (build message (replicate 256 7) .answer ≡ given 512)
     × (map (λ c. getD built c 1) (0 ∷ 12 ∷ 43 ∷ 51 ∷ 52 ∷ 53 ∷ 255 ∷ []) ≡ 0 ∷ 243 ∷ 65535 ∷ 108 ∷ 251 ∷ 0 ∷ 0 ∷ [])

@@ -8,9 +8,9 @@ use lib.ListN.{length, getD, drop}
 use Rattle.options.specs.Message.{Field, start, bytes, place, Holds, heldOption}
 use Rattle.options.specs.Refusals.{When, Row, First}
 use Rattle.options.specs.Kinds.{Table, Proper, kinds}
-use Rattle.options.specs.KindClaims.{AllBytes}
+use Rattle.options.specs.KindClaims.{OneOf, FromTo, AllBytes}
 use Rattle.options.specs.CodeSet.{marked}
-use Rattle.options.specs.Answers.{inOne, Content, Answer, Absent, Refused, Found, isKnown, lookup, given, Filled, unfilled}
+use Rattle.options.specs.Answers.{inOne, Content, Answer, Absent, Refused, Found, isKnown, lookup, given, declined, Filled}
 use Rattle.options.specs.ReadingClaims.{IsAccepted, ContentIs, CorrectAnswer}
 use Rattle.options.specs.Writing.{wrote, writer}
 use Rattle.options.specs.WritingClaims.{NoRecord, RecordIn, SameRecord, SameButPlace, IsKind, UnknownWith}
@@ -52,8 +52,8 @@ pub data HeadRow (m idx : List ℕ) : ℕ → ℕ → Type 0 where
 -- ---- [I2] Building: "gives 1, 2, 3, 18, then the reader's"; "every refusal .. changes no byte lent to the call"; else the index, and no other numbers
 
 pub data Builds (m old : List ℕ) : Filled → Type 0 where
-  refused-head : {n p : ℕ} → HeadRow m old n p → Builds m old (unfilled n p old)
-  refused-reader : {n p : ℕ} → HeadRight m → length old ≡ 256 → First m n p → Builds m old (unfilled n p old)
+  refused-head : {n p : ℕ} → HeadRow m old n p → Builds m old (record { answer = declined n p; buffer = old })
+  refused-reader : {n p : ℕ} → HeadRight m → length old ≡ 256 → First m n p → Builds m old (record { answer = declined n p; buffer = old })
   builds : {idx : List ℕ} → length old ≡ 256 → BuiltFrom m idx → Builds m old (record { answer = given 512; buffer = idx })
 
 -- the one outcome of building
@@ -96,6 +96,12 @@ pub data Answers (t : Table) (set : ℕ → Bool) (m idx : List ℕ) (c : ℕ) :
 -- for every message, index and code: the one answer
 abbrev pub AnswersByTheWords : Type 0
 AnswersByTheWords = (t : Table) (set : ℕ → Bool) (m idx : List ℕ) (c : ℕ) (w : Answer) → c ≤ 255 → lookupBy t set m idx c ≡ w ↔ Answers t set m idx c w
+
+-- "with an index also 18 and 19": so include/dhcpopt.h promises
+abbrev pub IndexNumbers : Type 0
+IndexNumbers =
+    ((m old : List ℕ) (n p : ℕ) → build m old .answer ≡ declined n p → FromTo 1 7 n ⊎ (n ≡ 18))
+    × ((t : Table) (set : ℕ → Bool) (m idx : List ℕ) (c n p : ℕ) → lookupBy t set m idx c ≡ Refused n p → FromTo 1 7 n ⊎ OneOf n (10 ∷ 18 ∷ 19 ∷ []))
 
 -- ---- [I6] "Demands 2 and 3 are read of the plain lookup, and of this one where the index was built from the same bytes"
 

@@ -7,8 +7,8 @@ use Prim.Native.Nat.{ℕ, _+_, _*_, _≤_, _<_}
 use lib.ListN.{length, take, drop}
 use Rattle.options.specs.Message.{Rec, Begins, Stands}
 use Rattle.options.specs.Refusals.{Beyond}
-use Rattle.options.specs.KindClaims.{AllBytes}
-use Rattle.options.specs.Answers.{recordBytes, given, Filled, unfilled}
+use Rattle.options.specs.KindClaims.{OneOf, FromTo, AllBytes}
+use Rattle.options.specs.Answers.{recordBytes, given, declined, Filled}
 use Rattle.options.specs.Sheet.{RecordBegins, Listed}
 use Rattle.options.specs.SheetRefusals.{RecordBeyond}
 use Rattle.options.specs.Writing.{optionBytes}
@@ -51,8 +51,8 @@ pub data RecordsAre : List Item → List ℕ → Type 0 where
 
 -- [V4, R17, O10] "the reader 17, then 11"; else the records b of the items xs
 pub data ReadsItems (f old : List ℕ) : Filled → Type 0 where
-  read-17 : {i : ℕ} → RunsPast f i → ReadsItems f old (unfilled 17 i old)
-  read-11 : (xs : List Item) (b : List ℕ) → ItemsOf f xs → RecordsAre xs b → length old < length b → ReadsItems f old (unfilled 11 (length old) old)
+  read-17 : {i : ℕ} → RunsPast f i → ReadsItems f old (record { answer = declined 17 i; buffer = old })
+  read-11 : (xs : List Item) (b : List ℕ) → ItemsOf f xs → RecordsAre xs b → length old < length b → ReadsItems f old (record { answer = declined 11 (length old); buffer = old })
   reads : (xs : List Item) (b : List ℕ) → ItemsOf f xs → RecordsAre xs b → length b ≤ length old → ReadsItems f old (filled b old)
 
 -- no other answer is right
@@ -86,16 +86,28 @@ pub record RightSheet (s : List ℕ) (rs : List Rec) : Type 0 where
 
 -- [V5, R16, R11] "the writer gives 16, record by record .., then 11 with the output's length where the items exceed it or 255"; else the items, "without END"
 pub data WritesItems (s out : List ℕ) : Filled → Type 0 where
-  write-16 : 4096 < length s → WritesItems s out (unfilled 16 (length s) out)
-  write-record : {n i : ℕ} → length s ≤ 4096 → FirstVendorRow s n i → WritesItems s out (unfilled n i out)
+  write-16 : 4096 < length s → WritesItems s out (record { answer = declined 16 (length s); buffer = out })
+  write-record : {n i : ℕ} → length s ≤ 4096 → FirstVendorRow s n i → WritesItems s out (record { answer = declined n i; buffer = out })
   write-11 : (rs : List Rec) → length s ≤ 4096 → RightSheet s rs
-      → (length out < length (optionBytes rs)) ⊎ (255 < length (optionBytes rs)) → WritesItems s out (unfilled 11 (length out) out)
+      → (length out < length (optionBytes rs)) ⊎ (255 < length (optionBytes rs)) → WritesItems s out (record { answer = declined 11 (length out); buffer = out })
   writes : (rs : List Rec) → length s ≤ 4096 → RightSheet s rs
       → length (optionBytes rs) ≤ length out → length (optionBytes rs) ≤ 255 → WritesItems s out (filled (optionBytes rs) out)
 
 -- no other answer is right, for a sheet of bytes, as every sheet handed to the code is
 abbrev pub VendorWriterIsCorrect : Type 0
 VendorWriterIsCorrect = (s out : List ℕ) (w : Filled) → AllBytes s → vendorWrite s out ≡ w ↔ WritesItems s out w
+
+-- "No more room than DHCPOPT_LONGEST_VENDOR is needed", which is 255: so include/dhcpopt.h promises
+abbrev pub VendorWriteRoomIsEnough : Type 0
+VendorWriteRoomIsEnough =
+    (s out : List ℕ) (rs : List Rec) → AllBytes s → length s ≤ 4096 → RightSheet s rs → length (optionBytes rs) ≤ 255 → 255 ≤ length out
+    → vendorWrite s out ≡ filled (optionBytes rs) out
+
+-- "dhcpopt_vendor_records gives 11 and 17, dhcpopt_vendor_write 10 to 13 and 16": so include/dhcpopt.h promises
+abbrev pub VendorNumbers : Type 0
+VendorNumbers =
+    ((f old : List ℕ) (n p : ℕ) → vendorRecords f old .answer ≡ declined n p → OneOf n (11 ∷ 17 ∷ []))
+    × ((s out : List ℕ) (n p : ℕ) → AllBytes s → vendorWrite s out .answer ≡ declined n p → FromTo 10 13 n ⊎ (n ≡ 16))
 
 -- ---- [V6] "Written, then read with room enough, the records come back": n bytes were given, at the start of w; they come back byte for byte
 

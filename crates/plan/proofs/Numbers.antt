@@ -1,4 +1,4 @@
--- No refusal has number 0, and an answer loses nothing. Assumes nothing.
+-- The answer case by case; no refusal has number 0. Assumes nothing.
 use mathlib.Core.Path.{_≡_, refl, sym, _∙_}
 use mathlib.Core.List.{List, [], _∷_}
 use mathlib.Core.Bool.{Bool, true, false, cond}
@@ -10,15 +10,14 @@ use borrow.Author.Tests.{eqb-false}
 use Rattle.options.specs.Message.{Rec}
 use Rattle.options.specs.Kinds.{kinds}
 use Rattle.options.specs.SheetWalk.{recordsLeft}
-use Rattle.options.specs.Writing.{splitAll, Wrote, wrote, declined, planFits, written, plans, tryPlans, sheet, afterSheet, writer}
+use Rattle.options.specs.Writing.{splitAll, Wrote, wrote, declined, planFits, written, plans, tryPlans, sheet, inOrder, afterSheet, writer}
 use Rattle.theorems.proofs.View.{clash}
 use Rattle.sheet.specs.Judge.{judgeOf}
 use Rattle.sheet.proofs.Verdicts.{verdict-settles}
-use Rattle.plan.specs.Answer.{AnswerLosesNothing, RefusalsAreNumbered}
+use Rattle.plan.specs.Answer.{ChoiceByCase, RefusalsAreNumbered}
 
-pub answer-loses-nothing : AnswerLosesNothing
-answer-loses-nothing single (wrote p w) m = refl
-answer-loses-nothing single (declined n p) m = refl
+pub choice-by-case : ChoiceByCase
+choice-by-case single plan n p w = (refl, refl)
 
 -- what declines does so by a number other than 0
 abbrev Numbered : Wrote → Type 0
@@ -40,7 +39,7 @@ tried (p ∷ ps) m rs = go (planFits p (length m - 240) rs) (tried ps m rs)
     go true ih = λ n i e. clash (cc)
     go false ih = ih
 
-judged : (s m : List ℕ) (permission : ℕ) → Numbered (afterSheet m (plans permission) (sheet kinds s))
+judged : (s m : List ℕ) (permission : ℕ) → Numbered (afterSheet m (plans permission) (inOrder (sheet kinds s)))
 judged s m permission n p e = go (eqb (judgeOf s .number) 0) refl n p (sym (verdict-settles s m (plans permission)) ∙ e)
   where
     go : (b : Bool) → eqb (judgeOf s .number) 0 ≡ b → Numbered (cond b (tryPlans (plans permission) m (splitAll (recordsLeft s 0))) (declined (judgeOf s .number) (judgeOf s .place)))

@@ -9,7 +9,7 @@ use lib.Dec.{eqb, ltb}
 use borrow.Author.Tests.{lt-ltb, le-ltb, lt-leb, eq-eqb, ne-eqb, eqb-true, eqb-false}
 use Rattle.options.specs.Message.{Rec}
 use Rattle.options.specs.Kinds.{kinds}
-use Rattle.options.specs.Writing.{wrote, piecesLeft, planFits, written, plans, tryPlans, sheet, afterSheet, writer}
+use Rattle.options.specs.Writing.{wrote, piecesLeft, planFits, written, plans, tryPlans, sheet, inOrder, afterSheet, writer}
 use Rattle.writing_theorems.proofs.PieceSteps.{pieces-at-record}
 use Rattle.sheet.specs.Judge.{judgeOf}
 use Rattle.sheet.proofs.Verdicts.{Accepted, tries, refused}
@@ -165,7 +165,7 @@ module _ (s : List ℕ) (n permission : ℕ) where
         sheet-long l m e = rw (e, le-ltb n 240 h, le-ltb 1472 n h2, le-ltb 3 permission h3, lt-ltb 4096 (length s) l)
 
         module _ (h4 : length s ≤ 4096) where
-          to-sheet : (m : List ℕ) → length m ≡ n → writer kinds s m permission ≡ afterSheet m (plans permission) (sheet kinds s)
+          to-sheet : (m : List ℕ) → length m ≡ n → writer kinds s m permission ≡ afterSheet m (plans permission) (inOrder (sheet kinds s))
           unfolding writer
           to-sheet m e = rw (e, le-ltb n 240 h, le-ltb 1472 n h2, le-ltb 3 permission h3, le-ltb 4096 (length s) h4)
 

@@ -22,13 +22,9 @@ singleOf s = singleTo 0 (recordsLeft s 0)
 abbrev pub Answers : List ℕ → ℕ → ℕ → Choice → Type 0
 Answers s n permission r = (m : List ℕ) → length m ≡ n → r ≡ answerOf (singleOf s) (options.writer kinds s m permission)
 
--- nothing is lost: the answer and the buffer after the call tell what the definition gives
-abbrev pub outcomeFrom : Choice → List ℕ → options.Wrote
-outcomeFrom (Plan p single) after = options.wrote p after
-outcomeFrom (Refused n p) after = options.declined n p
-
-abbrev pub AnswerLosesNothing : Type 0
-AnswerLosesNothing = (single : ℕ) (w : options.Wrote) (m : List ℕ) → outcomeFrom (answerOf single w) (options.bufferAfter m w) ≡ w
+-- each case with its own numbers: the plan used, or number and place
+abbrev pub ChoiceByCase : Type 0
+ChoiceByCase = (single plan n p : ℕ) (w : List ℕ) → (answerOf single (options.wrote plan w) ≡ Plan plan single) × (answerOf single (options.declined n p) ≡ Refused n p)
 
 -- no refusal has number 0
 abbrev pub RefusalsAreNumbered : Type 0

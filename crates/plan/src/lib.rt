@@ -5,7 +5,7 @@ ghost use lib.Dec.{ltb};
 ghost use lib.ListN.{length};
 ghost use Prim.Native.Nat.{_+_, _-_, _*_, _≤_, _<_};
 ghost use Rattle.options.specs.Writing.{piecesLeft, Between};
-ghost use Rattle.plan.specs.Answer.{Answers};
+ghost use Rattle.plan.specs.Answer.{Answers, ChoiceByCase, RefusalsAreNumbered};
 ghost use Rattle.plan.specs.Pieces.{sizeOf, pieceOf};
 ghost use Rattle.plan.specs.Steps.{sizes, Single, RestOf, overloading, firstFit, Tries};
 
@@ -29,6 +29,11 @@ pub struct Rest {
     pub done: usize,
     pub total: usize,
 }
+
+// Each case of the answer has the numbers that the rules give it, and none of a refusal is 0.
+pub fn proved()
+    ensures { λ _. ⌜ ChoiceByCase × RefusalsAreNumbered ⌝ }
+{}
 
 // The length that two bytes give.
 fn size_of(high: u8, low: u8) -> usize

@@ -1,9 +1,9 @@
 -- THE CODES PRESENT, AS PLAIN NUMBERS: document 01's answer with its values. The public contract rests on this file. Assumes nothing.
 use mathlib.Core.Path.{_≡_}
 use mathlib.Core.List.{List}
-use Prim.Native.Nat.{ℕ, zero, suc, _≤_}
+use Prim.Native.Nat.{ℕ, _≤_}
 use Rattle.options.specs.Reading.{readMessage, refused}
-use Rattle.options.specs.Answers.{Verdict, passed, refusedWith, Present, present}
+use Rattle.options.specs.Answers.{Verdict, passed, refusedWith, Present}
 use Rattle.present.specs.declared.Codes.{Codes}
 
 -- number and place of a refusal, 0 and 0 where there is none
@@ -18,19 +18,13 @@ placeOf (refusedWith n p) = p
 abbrev pub codesOf : Present → Codes
 codesOf r = record { words = r .words; count = r .count; lowest = r .lowest; number = numberOf (r .verdict); place = placeOf (r .verdict) }
 
--- ---- Nothing is lost
+-- each case with its own numbers: number and place are 0 and 0 where the message passed
+abbrev pub CodesByCase : Type 0
+CodesByCase =
+    (words : List ℕ) (count lowest n p : ℕ)
+    → (codesOf (record { verdict = passed; words = words; count = count; lowest = lowest }) ≡ record { words = words; count = count; lowest = lowest; number = 0; place = 0 })
+    × (codesOf (record { verdict = refusedWith n p; words = words; count = count; lowest = lowest }) ≡ record { words = words; count = count; lowest = lowest; number = n; place = p })
 
 -- no refusal of a message has the number 0, so 0 can stand for none
 abbrev pub RefusedByANumber : Type 0
 RefusedByANumber = (m : List ℕ) (n p : ℕ) → readMessage m ≡ refused n p → 1 ≤ n
-
--- the verdict that a number and a place stand for
-abbrev pub verdictFrom : ℕ → ℕ → Verdict
-verdictFrom zero p = passed
-verdictFrom (suc n) p = refusedWith (suc n) p
-
-abbrev pub presentFrom : Codes → Present
-presentFrom c = record { verdict = verdictFrom (c .number) (c .place); words = c .words; count = c .count; lowest = c .lowest }
-
-abbrev pub CodesKeepTheAnswer : Type 0
-CodesKeepTheAnswer = (m : List ℕ) → presentFrom (codesOf (present m)) ≡ present m

@@ -1,5 +1,6 @@
 -- A test that is computed for every number of a range holds of each. Assumes nothing.
 use mathlib.Core.Path.{_≡_, refl, subst}
+use mathlib.Core.Logic.{inl, inr}
 use mathlib.Core.Bool.{Bool, true, false, not, _&&_, _||_}
 use Prim.Native.Nat.{ℕ, zero, suc, _+_, _-_, _%_, _≤_, _<_}
 use native.Mathlib.Omega.{arith}
@@ -7,7 +8,7 @@ use borrow.Author.Count.{below-more}
 use lib.Bits.{bitAnd}
 use lib.Count.{leadingZeros}
 use lib.Dec.{T, eqb, eqb→eq}
-use mir.Facts.{and-yes}
+use mir.Facts.{and-yes, or-yes}
 use Rattle.ranges.specs.Rows.{rowNumber}
 use Rattle.ranges.specs.Words.{rangeRow, inRanges}
 
@@ -34,10 +35,17 @@ right firsts rows c = eqb (rangeRow firsts rows c) (rowNumber c)
 pub rows-right : (firsts rows a n : ℕ) → T (allBelow (λ i. right firsts rows (a + i)) n) → (c : ℕ) → a ≤ c → c < a + n → rangeRow firsts rows c ≡ rowNumber c
 rows-right firsts rows a n t c l h = eqb→eq _ _ (all-from (right firsts rows) a n t c l h)
 
--- no code from 77 on has a row
-pub no-row : (c : ℕ) → 77 ≤ c → c < 256 → 0 ≡ rowNumber c
+-- no code from 77 on has a row, but for 82
+pub row-82 : 12 ≡ rowNumber 82
 unfolding rowNumber
-no-row c l h = eqb→eq _ _ (all-from (λ x. eqb 0 (rowNumber x)) 77 179 tt c l (omega arith))
+row-82 = refl
+
+pub no-row : (c : ℕ) → 77 ≤ c → c < 256 → (c ≡ 82 → ⊥) → 0 ≡ rowNumber c
+unfolding rowNumber
+no-row c l h n = elim (or-yes (eqb c 82) (eqb 0 (rowNumber c)) (all-from (λ x. eqb x 82 || eqb 0 (rowNumber x)) 77 179 tt c l (omega arith))) [
+  | inl e ↦ absurd (n (eqb→eq _ _ e))
+  | inr e ↦ eqb→eq _ _ e
+]
 
 -- two tests that give the same
 abbrev pub same : Bool → Bool → Bool

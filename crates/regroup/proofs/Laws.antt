@@ -7,21 +7,21 @@ use native.Mathlib.Omega.{arith}
 use lib.ListN.{length, getD, take, drop, set}
 use lib.Seq.{drop-cons, sets-eq, take-all}
 use lib.Dec.{eqb, ltb}
-use borrow.Author.Tests.{eq-eqb, ne-eqb, ltb-true, ltb-false, lt-ltb, le-ltb}
+use borrow.Author.Tests.{eqb-false, eq-eqb, ne-eqb, ltb-true, ltb-false, lt-ltb, le-ltb}
 use Rattle.options.specs.Message.{Rec}
-use Rattle.options.specs.Reading.{among}
+use Rattle.options.specs.Reading.{either, among}
 use Rattle.options.specs.Answers.{Verdict, passed, refusedWith, unfilled, filledWith}
 use Rattle.options.specs.SheetWalk.{Walk, allRead, cutAt, readAt, recordsFrom, Sheet, sound, faulty, keep, ruled}
 use Rattle.options.specs.Grouped.{Items, none, fault, rec, grp, Body, groupOf, members, body, behind, fileOf, andThen, faultOf, check, filledIf, moveRules, verdictOn, inGroup, move, noGroup, wayBack, goBack}
 use Rattle.theorems.proofs.View.{clash}
-use Rattle.writing_theorems.proofs.SheetRows.{Bad, tag-bad}
+use Rattle.grouped_theorems.proofs.Choosing.{both-passed}
 use Rattle.buffer.specs.Written.{laid}
 use Rattle.sheet.specs.Steps.{stepOf, walkBy}
 use Rattle.sheet.specs.declared.Step.{Step}
 use Rattle.sheet.specs.declared.Step.the-variants.{Record}
 use Rattle.sheet.proofs.Steps as steps
-use Rattle.groups.specs.Parts.{outermostSize, membersAt}
-use Rattle.groups.proofs.Laws.{group-then, members-found, group-short, group-whole, group-fault}
+use Rattle.groups.specs.Parts.{outermostSize, membersAt, pastRecords, Stops}
+use Rattle.groups.proofs.Laws.{Passes-over, past-from, past-on, pass, group-then, members-found, group-short, group-whole, group-fault}
 use Rattle.groups.proofs.Files.{outer, no-outer, behind-some, behind-none, check-long, check-short}
 use Rattle.regroup.specs.Parts.{movable, noneGroup, plainIn}
 
@@ -45,11 +45,17 @@ module _ (s : List ℕ) (at : ℕ) where
     unfolding movable
     moved = movable-by (Record tag size) e ∙ ap (λ (k : ℕ). cond (among tag (0 ∷ 52 ∷ 255 ∷ [])) (refusedWith 10 at) (movable (recordsFrom k 0 (drop k s)))) on
 
-    pub moved-bad : Bad tag → movable (recordsFrom at 0 (drop at s)) ≡ refusedWith 10 at
-    moved-bad b = moved ∙ rw (tag-bad tag b)
-
-    pub moved-on : (tag ≡ 0 → ⊥) → (tag ≡ 52 → ⊥) → (tag ≡ 255 → ⊥) → movable (recordsFrom at 0 (drop at s)) ≡ movable (recordsFrom (at + size + 3) 0 (drop (at + size + 3) s))
-    moved-on n m k = moved ∙ rw (ne-eqb tag 0 n, ne-eqb tag 52 m, ne-eqb tag 255 k)
+    -- a record that is not passed
+    pub moved-stop : Stops s at → movable (recordsFrom at 0 (drop at s)) ≡ refusedWith 10 at
+    moved-stop h = moved ∙ go (eqb tag 0) (eqb tag 52) (eqb tag 255) refl refl refl
+      where
+        go : (x y z : Bool) → eqb tag 0 ≡ x → eqb tag 52 ≡ y → eqb tag 255 ≡ z
+            → cond (either x (either y (either z false))) (refusedWith 10 at) (movable (recordsFrom (at + size + 3) 0 (drop (at + size + 3) s))) ≡ refusedWith 10 at
+        go true y z p q r = refl
+        go false true z p q r = refl
+        go false false true p q r = refl
+        go false false false p q r =
+            absurd (omega (arith, sym h ∙ past-on s at tag size e (eqb-false tag 0 p) (eqb-false tag 52 q) (eqb-false tag 255 r), past-from (at + 3 + size) (recordsFrom (at + 3 + size) 0 (drop (at + 3 + size) s))))
 
     gone : noneGroup (recordsFrom at 0 (drop at s)) ≡ cond (eqb tag 0) false (noneGroup (recordsFrom (at + size + 3) 0 (drop (at + size + 3) s)))
     unfolding noneGroup
@@ -60,6 +66,14 @@ module _ (s : List ℕ) (at : ℕ) where
 
     pub gone-on : (tag ≡ 0 → ⊥) → noneGroup (recordsFrom at 0 (drop at s)) ≡ noneGroup (recordsFrom (at + size + 3) 0 (drop (at + size + 3) s))
     gone-on z = gone ∙ rw (ne-eqb tag 0 z)
+
+movable-over : Passes-over movable
+unfolding movable
+movable-over p r rest e = rw e
+
+-- the records that are passed leave the verdict on a sheet as it is
+pub past-moved : (s : List ℕ) → ((k : ℕ) → getD s k 0 < 256) → (at : ℕ) → at ≡ pastRecords 0 (recordsFrom 0 0 s) → (movable (recordsFrom 0 0 s) ≡ movable (recordsFrom at 0 (drop at s))) × Stops s at
+past-moved s octets at q = let p = pass s 0 octets 0 at q .1 in (p .same-verdict movable movable-over, p .stops)
 
 pub named : (f : List ℕ) → (getD f 3 0 ≡ 0 → ⊥) → plainIn f ≡ false
 unfolding plainIn
@@ -130,10 +144,6 @@ no-group-in deeper (readAt i r rest) e = go (eqb (r .tag) 0) (among (r .tag) (52
     go false true q ih = clash (cc)
     go false false q ih = ih q
 
-passed-both : (v w : Verdict) → andThen v w ≡ passed → (v ≡ passed) × (w ≡ passed)
-passed-both passed w e = (refl, e)
-passed-both (refusedWith n p) w e = clash (cc)
-
 -- an accepted file is its outermost group, to its end
 pub record Whole (f : List ℕ) : Type 0 where
   pub long : 4 + getD f 3 0 ≤ length f
@@ -160,7 +170,7 @@ module _ (f : List ℕ) (e : check f ≡ passed) where
 
   both : (faultOf (groupOf (body 4) 0 (drop 3 (take size f)) none) ≡ passed) × (faultOf (behind size (drop size f)) ≡ passed)
   both =
-      passed-both (faultOf (groupOf (body 4) 0 (drop 3 (take size f)) none)) (faultOf (behind size (drop size f)))
+      both-passed (faultOf (groupOf (body 4) 0 (drop 3 (take size f)) none)) (faultOf (behind size (drop size f)))
       (sym (ap faultOf (outer f size refl has-outer .is-group) ∙ group-then (body 4) 0 (drop 3 (take size f)) (behind size (drop size f))) ∙ file-passes)
 
   to-end : (t : Bool) → ltb size (length f) ≡ t → length f ≤ size

@@ -1,4 +1,5 @@
 // Reads settings sheets from standard input, writes each into a buffer, and prints what was written (tests/sheets/README.md).
+mod names;
 mod print;
 
 // The lines of one sheet.
@@ -9,33 +10,21 @@ fn one(sheet: &[u8], buf: &mut [u8], permission: u8) {
     } else {
         print::refused(w.refusal, w.place, buf);
     }
+    names::written(sheet, buf.len(), permission, w);
     console::word(b"-\n");
-}
-
-// Reads a sheet as long as `sheet` and prints its lines.
-fn body(sheet: &mut [u8], buf: &mut [u8], first: u8, permission: u8) {
-    let n = io::read_full(0, sheet);
-    console::fill(buf, first);
-    one(&sheet[..n], buf, permission);
 }
 
 // Reads one case and prints its lines; false at the end of the input.
 fn next() -> bool {
-    let mut head = [0u8; 6];
-    if io::read_full(0, &mut head) < 6 {
-        return false;
-    }
-    let length = num::be16(head[1], head[2]) as usize;
-    let size = num::be16(head[4], head[5]) as usize;
-    if 1600 < length {
-        return false;
-    }
-    if 5000 < size {
-        return false;
-    }
-    let mut buf = [0u8; 1600];
+    let mut name = [0u8; 1];
     let mut sheet = [0u8; 5000];
-    body(&mut sheet[..size], &mut buf[..length], head[3], head[0]);
+    let mut buf = [0u8; 1600];
+    let c = console::next(&mut name, &mut sheet, &mut buf);
+    if !c.there {
+        return false;
+    }
+    let room = c.room;
+    one(message::part(&sheet, 0, c.size), &mut buf[..room], c.call);
     true
 }
 

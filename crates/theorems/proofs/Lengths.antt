@@ -1,18 +1,18 @@
 -- How many bytes the options of an accepted message take, and how many options there are: all of them lie within the fields. Assumes nothing.
-use mathlib.Core.Path.{_≡_, ap, _∙_, subst}
+use mathlib.Core.Path.{_≡_, refl, sym, ap, _∙_, subst}
 use mathlib.Core.List.{List, [], _∷_, _++_}
 use mathlib.Core.Bool.{Bool, true, false, cond}
 use Prim.Native.Nat.{ℕ, _+_, _*_, _≤_}
 use native.Mathlib.Omega.{arith}
 use native.Mathlib.Decide.{decLt}
-use lib.ListN.{length, take, drop, length-take, length-drop, length-append}
+use lib.ListN.{length, take, drop, length-take, length-drop, length-append, take-append-drop}
 use lib.Seq.{drop-drop}
 use lib.Dec.{ltb, eqb}
 use Rattle.options.specs.Message.{Field, options, file, sname, start, bytes, shortest, longest, cookie, Opt, opt, endToEnd}
 use Rattle.options.specs.Refusals.{row-2}
 use Rattle.options.specs.Reading.{either, Parse, parse, Reading, accepted, refused, more, wrong52, second52, judge, andThen, pieces, extend, overloadOf, fileIn, snameIn, allFields, same, readMessage}
 use Rattle.options.specs.Writing.{size}
-use Rattle.options.specs.ReadingClaims.{IsAccepted}
+use Rattle.options.specs.ReadingClaims.{IsAccepted, FieldsInOrder}
 use Rattle.theorems.proofs.View.{Reads, r-none, r-pad, r-end, r-beyond, r-option, reads}
 use Rattle.theorems.proofs.Fields.{below, option-in}
 use Rattle.theorems.proofs.Reading.{no-row-of, inner}
@@ -143,3 +143,18 @@ module _ (m : List ℕ) (a : IsAccepted m) where
 
   pub joined-short : (c : ℕ) → length (endToEnd (pieces c (a .options))) ≤ 1424
   joined-short c = omega (arith, pieces-less c (a .options), options-short)
+
+-- ---- The message is its fields, end to end
+
+pub fields-in-order : FieldsInOrder
+fields-in-order m h =
+    record {
+      header = take 44 m;
+      cookie = take 4 (drop 236 m);
+      whole = cut 44 0 m ∙ ap (λ (l : List ℕ). take 44 m ++ l) (cut 64 44 m ∙ ap (λ (l : List ℕ). take 64 (drop 44 m) ++ l) (cut 128 108 m ∙ ap (λ (l : List ℕ). take 128 (drop 108 m) ++ l) (cut 4 236 m)));
+      sizes = (omega (arith, length-take 44 m), omega (arith, length-take 64 (drop 44 m), length-drop 44 m), omega (arith, length-take 128 (drop 108 m), length-drop 108 m), omega (arith, length-take 4 (drop 236 m), length-drop 236 m));
+      starts = (refl, refl, refl);
+    }
+  where
+    cut : (n k : ℕ) (l : List ℕ) → drop k l ≡ take n (drop k l) ++ drop (k + n) l
+    cut n k l = sym (take-append-drop n (drop k l)) ∙ ap (λ (x : List ℕ). take n (drop k l) ++ x) (drop-drop n k l)

@@ -98,6 +98,23 @@ fn sheets(m: &[u8]) {
     print::records(m, &mut small);
 }
 
+// Copies of codes in one piece, in options and in file, into just enough room; too little; of an absent code; of 0 and 255.
+fn copies(m: &[u8], three: &mut [u8], eight: &mut [u8]) {
+    print::copy(m, 12, three);
+    print::copy(m, 3, eight);
+    print::copy(m, 51, eight);
+    print::copy(m, 51, three);
+    print::copy(m, 50, eight);
+    print::copy(m, 0, eight);
+    print::copy(m, 255, eight);
+}
+
+fn copied(m: &[u8]) {
+    let mut three = [0u8; 3];
+    let mut eight = [0u8; 8];
+    copies(m, &mut three, &mut eight);
+}
+
 // A refused message; 10 comes before that.
 fn refusals(m: &[u8], sheet: &mut [u8]) {
     print::line(m, ALL, 12);
@@ -106,12 +123,14 @@ fn refusals(m: &[u8], sheet: &mut [u8]) {
     print::text(m, ALL, 12);
     print::present(dhcpopt_reader::dhcpopt_present(m));
     print::records(m, sheet);
+    print::copy(m, 12, sheet);
+    print::copy(m, 0, sheet);
 }
 
 // A message of 240 zeros is refused for its cookie.
 fn refused() {
     let m = [0u8; 240];
-    let mut sheet = [0u8; 1];
+    let mut sheet = [0u8; 9];
     refusals(&m, &mut sheet);
 }
 
@@ -122,6 +141,7 @@ fn calls(m: &[u8]) {
     texts(m);
     walks(m);
     sheets(m);
+    copied(m);
     refused();
     reader_walks(m);
     indexes::lines(m);

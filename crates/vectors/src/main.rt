@@ -22,8 +22,12 @@ fn field_lookups(m: &[u8], f: &[u8]) {
     }
 }
 
-// The lookup of each option, in reading order.
-fn lookups(m: &[u8]) {
+// The lookup of each option, in reading order; of a refused message the copy of one.
+fn lookups(m: &[u8], refusal: u32) {
+    if refusal != 0 {
+        print::copy_whole(m, 53);
+        return;
+    }
     field_lookups(m, message::part(m, 240, 1232));
     let v = message::find(m, 52).over;
     if message::file_on(v) {
@@ -40,33 +44,24 @@ fn one(m: &[u8]) {
     let n = listing::list(m, &mut text);
     console::word(&text[..n]);
     let p = dhcpopt_reader::dhcpopt_present(m);
-    if p.refusal == 0 {
-        print::present(p);
-        lookups(m);
-        let mut sheet = [0u8; 2048];
-        print::records(m, &mut sheet);
-    }
+    let refusal = p.refusal;
+    print::present(p);
+    lookups(m, refusal);
+    let mut sheet = [0u8; 2048];
+    print::records(m, &mut sheet);
     console::word(b"-\n");
-}
-
-// Reads a message as long as buf and prints its lines.
-fn body(buf: &mut [u8]) {
-    let n = io::read_full(0, buf);
-    one(&buf[..n]);
 }
 
 // Reads one message and prints its lines; false at the end of the input.
 fn next() -> bool {
-    let mut head = [0u8; 2];
-    if io::read_full(0, &mut head) < 2 {
+    let mut name = [0u8; 1];
+    let mut m = [0u8; 1600];
+    let mut out = [0u8; 1];
+    let c = console::next(&mut name, &mut m, &mut out);
+    if !c.there {
         return false;
     }
-    let size = (console::wide(head[0]) * 256 + console::wide(head[1])) as usize;
-    if 1600 < size {
-        return false;
-    }
-    let mut buf = [0u8; 1600];
-    body(&mut buf[..size]);
+    one(message::part(&m, 0, c.size));
     true
 }
 

@@ -2,7 +2,10 @@
 // with the answer. A line with a question mark is printed where something differs, so that the output is another.
 use console::word;
 use dhcpopt_reader::PlainAnswer;
+use dhcpopt_reader::PlainContent;
 use dhcpopt_reader::PlainExtent;
+use dhcpopt_reader::from_signed;
+use dhcpopt_reader::from_unsigned;
 use lookup::Answer;
 use lookup::Content;
 use lookup::Origin;
@@ -19,22 +22,70 @@ fn field(f: Field) -> u32 {
     }
 }
 
-fn kind(c: Content) -> u32 {
-    match c {
-        Content::Unknown(_) => 0,
-        Content::Broken(_) => 0,
-        Content::Address(_) => 1,
-        Content::Addresses(_) => 2,
-        Content::Pairs(_) => 3,
-        Content::Flag(_) => 4,
-        Content::Octet(_) => 5,
-        Content::Number16(_) => 6,
-        Content::Numbers16(_) => 7,
-        Content::Unsigned32(_) => 8,
-        Content::Signed32(_) => 9,
-        Content::Text(_) => 10,
-        Content::Opaque(_) => 11,
+fn part(status: u32, kind: u32, length: usize) -> PlainContent {
+    PlainContent {
+        status,
+        kind,
+        refusal: 0,
+        number: 0,
+        length,
     }
+}
+
+fn number(kind: u32, number: i64) -> PlainContent {
+    PlainContent {
+        status: 3,
+        kind,
+        refusal: 0,
+        number,
+        length: 0,
+    }
+}
+
+fn broken(refusal: u32) -> PlainContent {
+    PlainContent {
+        status: 5,
+        kind: 0,
+        refusal,
+        number: 0,
+        length: 0,
+    }
+}
+
+// What C is to be told of each content.
+fn told(c: Content) -> PlainContent {
+    match c {
+        Content::Unknown(n) => part(1, 0, n),
+        Content::Broken(r) => broken(r),
+        Content::Address(n) => number(1, from_unsigned(n)),
+        Content::Addresses(n) => part(4, 2, n),
+        Content::Pairs(n) => part(4, 3, n),
+        Content::Flag(n) => number(4, from_unsigned(n as u32)),
+        Content::Octet(n) => number(5, from_unsigned(n as u32)),
+        Content::Number16(n) => number(6, from_unsigned(n as u32)),
+        Content::Numbers16(n) => part(4, 7, n),
+        Content::Unsigned32(n) => number(8, from_unsigned(n)),
+        Content::Signed32(z) => number(9, from_signed(z)),
+        Content::Text(n) => part(4, 10, n),
+        Content::Opaque(n) => part(4, 11, n),
+        Content::Relay(n) => part(4, 12, n),
+    }
+}
+
+fn same_content(t: PlainContent, c: PlainAnswer) -> bool {
+    if t.status != c.status {
+        return false;
+    }
+    if t.kind != c.kind {
+        return false;
+    }
+    if t.refusal != c.refusal {
+        return false;
+    }
+    if t.number != c.number {
+        return false;
+    }
+    t.length == c.length
 }
 
 fn same_pieces(n: usize, c: PlainAnswer) -> bool {
@@ -51,7 +102,7 @@ fn same_wholeness(w: Wholeness, c: PlainAnswer) -> bool {
     }
 }
 
-// Field, offset, wholeness and kind, by their names.
+// Field, offset, wholeness and content, by their names.
 fn same_found(origin: Origin, content: Content, c: PlainAnswer) -> bool {
     let f = origin.field;
     if field(f) != c.field {
@@ -64,16 +115,23 @@ fn same_found(origin: Origin, content: Content, c: PlainAnswer) -> bool {
     if !same_wholeness(w, c) {
         return false;
     }
-    kind(content) == c.kind
+    same_content(told(content), c)
+}
+
+fn same_refusal(number: u32, place: usize, c: PlainAnswer) -> bool {
+    if c.status != 2 {
+        return false;
+    }
+    if c.refusal != number {
+        return false;
+    }
+    c.place == place
 }
 
 fn same(a: Answer, c: PlainAnswer) -> bool {
     match a {
-        Answer::Absent => false,
-        Answer::Refused {
-            number: _,
-            place: _,
-        } => false,
+        Answer::Absent => c.status == 0,
+        Answer::Refused { number, place } => same_refusal(number, place, c),
         Answer::Found { origin, content } => same_found(origin, content, c),
     }
 }
@@ -135,13 +193,17 @@ fn sets(m: &[u8], code: u8, status: u32) -> bool {
     same_text(m, code, a, b, c, d)
 }
 
+// Of an answer for C.
+pub fn answered(m: &[u8], known: [u64; 4], code: u8, c: PlainAnswer) {
+    let r = lookup::lookup(m, known, code);
+    if !same(r, c) {
+        word(b"names?\n");
+    }
+}
+
 // Of a code that the message holds.
 pub fn held(m: &[u8], code: u8) {
     let all = dhcpopt_reader::dhcpopt_lookup(m, ALL, ALL, ALL, ALL, code);
-    let r = lookup::lookup(m, [ALL; 4], code);
-    if !same(r, all) {
-        word(b"names?\n");
-    }
     if !sets(m, code, all.status) {
         word(b"sets?\n");
     }

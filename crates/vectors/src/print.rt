@@ -9,12 +9,16 @@ use console::word;
 use dhcpopt_reader::PlainAnswer;
 use dhcpopt_reader::PlainCodes;
 use dhcpopt_reader::PlainExtent;
+use filled::PlainFilled;
 use message::part;
+
+// The first byte of each lent buffer; the others rise.
+const FIRST: u8 = 160;
 
 // A blank and a name, each in 11 bytes: absent, unknown, refused; the kinds; broken; the fields.
 fn name(i: u32) {
     let t = part(
-        b" absent\0\0\0\0 unknown\0\0\0 refused\0\0\0 address\0\0\0 addresses\0 pairs\0\0\0\0\0 flag\0\0\0\0\0\0 octet\0\0\0\0\0 number16\0\0 numbers16\0 unsigned32 signed32\0\0 text\0\0\0\0\0\0 opaque\0\0\0\0 broken\0\0\0\0 options\0\0\0 file\0\0\0\0\0\0 sname\0\0\0\0\0",
+        b" absent\0\0\0\0 unknown\0\0\0 refused\0\0\0 address\0\0\0 addresses\0 pairs\0\0\0\0\0 flag\0\0\0\0\0\0 octet\0\0\0\0\0 number16\0\0 numbers16\0 unsigned32 signed32\0\0 text\0\0\0\0\0\0 opaque\0\0\0\0 relay\0\0\0\0\0 broken\0\0\0\0 options\0\0\0 file\0\0\0\0\0\0 sname\0\0\0\0\0",
         i as usize * 11,
         11,
     );
@@ -27,7 +31,7 @@ fn named(from: u32, i: u32, most: u32) {
         word(b" ?");
         return;
     }
-    name(from % 16 + i % 16);
+    name(from % 32 + i % 16);
 }
 
 // The name of an answer, by its status and its kind.
@@ -37,10 +41,10 @@ fn answer_name(status: u32, kind: u32) {
         return;
     }
     if status < 5 {
-        named(2, kind, 11);
+        named(2, kind, 12);
         return;
     }
-    named(9, status, 5);
+    named(10, status, 5);
 }
 
 // What is answered of an option: its name, and its number, its length, or number and place of what is broken.
@@ -69,41 +73,41 @@ fn answer(a: PlainAnswer) {
         return;
     }
     content(a);
-    named(14, a.field, 3);
+    named(15, a.field, 3);
     two(b"", a.offset, a.start);
     if a.several == 1 {
         one(b" several", a.whole as u64);
     }
 }
 
-// The bytes that were copied: the code, how many, and their sum.
-fn copied(code: u8, size: usize, bytes: &[u8]) {
-    one(b"copy", code as u64);
-    number(size as u64);
-    number(sum(part(bytes, 0, size)));
+// What a call gave of a lent buffer: how many bytes, and their sum; or the refusal. Then the sum of the bytes behind those, which is of the whole buffer on a refusal.
+fn given(g: PlainFilled, buffer: &[u8]) {
+    if g.refusal == 0 {
+        number(g.size as u64);
+        number(sum(part(buffer, 0, g.size)));
+    } else {
+        two(b" refused", g.refusal as usize, g.place);
+    }
+    one(b" rest", sum(part(buffer, g.size, buffer.len())));
     word(b"\n");
 }
 
 // The line of the copy of a code into a lent buffer.
 pub fn copy(m: &[u8], code: u8, buffer: &mut [u8]) {
-    let f = dhcpopt_reader::dhcpopt_copy(m, code, buffer);
-    if f.refusal == 0 {
-        copied(code, f.size, buffer);
-        return;
-    }
+    console::fill(buffer, FIRST);
     one(b"copy", code as u64);
-    two(b" refused", f.refusal as usize, f.place);
-    word(b"\n");
+    given(dhcpopt_reader::dhcpopt_copy(m, code, buffer), buffer);
 }
 
-fn copy_whole(m: &[u8], code: u8) {
+pub fn copy_whole(m: &[u8], code: u8) {
     let mut buffer = [0u8; 1472];
     copy(m, code, &mut buffer);
 }
 
-// The line of the lookup of a code that the message holds, and what is compared besides.
+// The lines of a code that the message holds, its lookup and its copy, and what is compared besides.
 pub fn look_up(m: &[u8], known: [u64; 4], code: u8) {
     line(m, known, code);
+    copy_whole(m, code);
     names::held(m, code);
 }
 
@@ -113,9 +117,7 @@ pub fn line(m: &[u8], known: [u64; 4], code: u8) {
     let a = dhcpopt_reader::dhcpopt_lookup(m, known[0], known[1], known[2], known[3], code);
     answer(a);
     word(b"\n");
-    if a.several == 1 {
-        copy_whole(m, code);
-    }
+    names::answered(m, known, code, a);
 }
 
 // The line of the codes present.
@@ -127,6 +129,7 @@ pub fn present(p: PlainCodes) {
     number(w[3]);
     one(b" count", p.count as u64);
     one(b" lowest", p.lowest as u64);
+    two(b" refusal", p.refusal as usize, p.place);
     word(b"\n");
 }
 
@@ -157,22 +160,11 @@ pub fn build(m: &[u8], index: &mut [u16]) {
     word(b"\n");
 }
 
-// What was written to a lent buffer: how many bytes, and their sum.
-fn written(size: usize, sheet: &[u8]) {
-    one(b"records", size as u64);
-    number(sum(part(sheet, 0, size)));
-    word(b"\n");
-}
-
 // The line of the records that are written to a lent buffer.
 pub fn records(m: &[u8], sheet: &mut [u8]) {
-    let f = dhcpopt_reader::dhcpopt_records(m, sheet);
-    if f.refusal == 0 {
-        written(f.size, sheet);
-        return;
-    }
-    two(b"records refused", f.refusal as usize, f.place);
-    word(b"\n");
+    console::fill(sheet, FIRST);
+    word(b"records");
+    given(dhcpopt_reader::dhcpopt_records(m, sheet), sheet);
 }
 
 // The place and the bytes of a part, after a name and a code.

@@ -20,7 +20,7 @@ use Rattle.filled.specs.declared.Given.the-variants.{Bytes, Refused}
 use Rattle.vendor.specs.Laid.{foundIn, itemBytes, NonePast}
 
 -- what is found is what is listed
-abbrev Same : Items → List Rec → Parse → Type 0
+abbrev pub Same : Items → List Rec → Parse → Type 0
 Same (past i) rs p = Unit {0}
 Same (listed xs) rs p = (rs ≡ itemRecords xs) × NonePast p
 
@@ -29,7 +29,7 @@ unfolding itemRecords
 same-also i x (past j) rs p e = tt
 same-also i x (listed xs) rs p e = (ap (λ (l : List Rec). x ∷ l) (e .0), e .1)
 
-found-same : (p : Parse) → Same (itemsIn p) (foundIn p) p
+pub found-same : (p : Parse) → Same (itemsIn p) (foundIn p) p
 unfolding itemsIn itemRecords foundIn
 found-same ended = (refl, tt)
 found-same (ranOut i) = (refl, tt)

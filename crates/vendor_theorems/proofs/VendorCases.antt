@@ -1,63 +1,12 @@
--- Cases of request 05, computed. Assumes nothing.
-use mathlib.Core.Path.{_≡_, refl}
-use mathlib.Core.List.{List, [], _∷_, _++_}
-use Prim.Native.Nat.{ℕ}
-use lib.ListN.{replicate}
+-- The cases of vendor information, by computing them. Assumes nothing.
+use mathlib.Core.Path.{refl}
 use Rattle.options.specs.Reading.{parse}
-use Rattle.options.specs.Answers.{recordBytes, given, Filled, unfilled}
+use Rattle.options.specs.Answers.{recordBytes}
 use Rattle.options.specs.SheetWalk.{recordsFrom, ruled}
 use Rattle.options.specs.Writing.{optionBytes}
 use Rattle.options.specs.Vendor.{itemsIn, itemRecords, vendorRecords, vendorSheet, vendorWrite}
+use Rattle.options.specs.VendorCases.{VendorCasesHold}
 
-abbrev whole : ℕ → List ℕ → Filled
-whole n xs = record { answer = given n; buffer = xs }
-
--- what is asked, each with what is to be given
-record Case : Type 0 where
-  asked : Filled
-  answered : Filled
-
-abbrev is : Filled → Filled → Case
-is a b = record { asked = a; answered = b }
-
-abbrev cases : List Case
-cases =
-    -- a pad, an item twice, END and what follows it
-    is (vendorRecords (0 ∷ 1 ∷ 1 ∷ 7 ∷ 1 ∷ 0 ∷ 255 ∷ 9 ∷ []) (5 ∷ 5 ∷ 5 ∷ 5 ∷ 5 ∷ 5 ∷ 5 ∷ 5 ∷ [])) (whole 7 (1 ∷ 0 ∷ 1 ∷ 7 ∷ 1 ∷ 0 ∷ 0 ∷ 5 ∷ []))
-    -- nothing at all; and the bytes run out between items
-    ∷ is (vendorRecords [] []) (whole 0 [])
-    ∷ is (vendorRecords (1 ∷ 0 ∷ []) (5 ∷ 5 ∷ 5 ∷ [])) (whole 3 (1 ∷ 0 ∷ 0 ∷ []))
-    -- 17 before 11
-    ∷ is (vendorRecords (1 ∷ 0 ∷ 0 ∷ 3 ∷ 2 ∷ 9 ∷ []) []) (unfilled 17 3 [])
-    ∷ is (vendorRecords (1 ∷ []) []) (unfilled 17 0 [])
-    -- 255 as data, and 52
-    ∷ is (vendorRecords (52 ∷ 1 ∷ 255 ∷ 52 ∷ 0 ∷ []) (5 ∷ 5 ∷ 5 ∷ 5 ∷ 5 ∷ 5 ∷ 5 ∷ [])) (whole 7 (52 ∷ 0 ∷ 1 ∷ 255 ∷ 52 ∷ 0 ∷ 0 ∷ []))
-    ∷ is (vendorRecords (52 ∷ 1 ∷ 9 ∷ []) (5 ∷ 5 ∷ 5 ∷ [])) (unfilled 11 3 (5 ∷ 5 ∷ 5 ∷ []))
-    -- written without END
-    ∷ is (vendorWrite (1 ∷ 0 ∷ 1 ∷ 7 ∷ 52 ∷ 0 ∷ 0 ∷ []) (5 ∷ 5 ∷ 5 ∷ 5 ∷ 5 ∷ 5 ∷ [])) (whole 5 (1 ∷ 1 ∷ 7 ∷ 52 ∷ 0 ∷ 5 ∷ []))
-    ∷ is (vendorWrite [] []) (whole 0 [])
-    -- 12 before 10; 10; 13; 11
-    ∷ is (vendorWrite (1 ∷ 0 ∷ 0 ∷ 0 ∷ 0 ∷ 1 ∷ []) []) (unfilled 12 3 [])
-    ∷ is (vendorWrite (1 ∷ 0 ∷ 0 ∷ 255 ∷ 0 ∷ 0 ∷ []) []) (unfilled 10 3 [])
-    ∷ is (vendorWrite (1 ∷ 1 ∷ 0 ∷ replicate 256 0) []) (unfilled 13 0 [])
-    ∷ is (vendorWrite (1 ∷ 0 ∷ 255 ∷ replicate 255 0) []) (unfilled 11 0 [])
-    ∷ is (vendorWrite (1 ∷ 0 ∷ 0 ∷ []) (5 ∷ [])) (unfilled 11 1 (5 ∷ []))
-    -- 255 bytes are given, and 256 are not, with output enough for both
-    ∷ is (vendorWrite (1 ∷ 0 ∷ 253 ∷ replicate 253 7) (replicate 257 5)) (whole 255 (1 ∷ 253 ∷ (replicate 253 7 ++ (5 ∷ 5 ∷ []))))
-    ∷ is (vendorWrite (1 ∷ 0 ∷ 254 ∷ replicate 254 7) (replicate 257 5)) (unfilled 11 257 (replicate 257 5))
-    -- the longest items are read: 254 and 255 bytes of data
-    ∷ is (vendorRecords (1 ∷ 254 ∷ (replicate 254 7 ++ (2 ∷ 255 ∷ replicate 255 8))) (replicate 515 5))
-    (whole 515 (1 ∷ 0 ∷ 254 ∷ (replicate 254 7 ++ (2 ∷ 0 ∷ 255 ∷ replicate 255 8))))
-    ∷ []
-
-abbrev gets : List Case → List Filled
-gets [] = []
-gets (c ∷ cs) = c .asked ∷ gets cs
-
-abbrev wants : List Case → List Filled
-wants [] = []
-wants (c ∷ cs) = c .answered ∷ wants cs
-
-pub vendor-cases : gets cases ≡ wants cases
+pub vendor-cases-hold : VendorCasesHold
 unfolding parse recordBytes optionBytes itemsIn itemRecords recordsFrom ruled vendorRecords vendorSheet vendorWrite
-vendor-cases = refl
+vendor-cases-hold = refl

@@ -87,11 +87,11 @@ vendor-writer-is-correct s out w all =
 
 -- ---- what is written is read as the records
 
-unfoldable placed : ℕ → List Rec → List Item
+unfoldable pub placed : ℕ → List Rec → List Item
 placed at [] = []
 placed at (r ∷ rs) = record { offset = at; item = r } ∷ placed (at + 2 + length (r .body)) rs
 
-placed-records : (at : ℕ) (rs : List Rec) → itemRecords (placed at rs) ≡ rs
+pub placed-records : (at : ℕ) (rs : List Rec) → itemRecords (placed at rs) ≡ rs
 unfolding itemRecords placed
 placed-records at [] = refl
 placed-records at (r ∷ rs) = ap (λ (l : List Rec). r ∷ l) (placed-records (at + 2 + length (r .body)) rs)
@@ -123,12 +123,12 @@ read-back : (rs : List Rec) (old : List ℕ) → AllCodes rs → length (recordB
 unfolding vendorRecords
 read-back rs old h l = rw (parse-items 0 rs h, placed-records 0 rs, le-ltb (length old) (length (recordBytes rs)) l)
 
-answer-size : {n k : ℕ} {w u : List ℕ} → _≡_ {A = Filled} (record { answer = given k; buffer = u }) (record { answer = given n; buffer = w }) → (k ≡ n) × (u ≡ w)
+pub answer-size : {n k : ℕ} {w u : List ℕ} → _≡_ {A = Filled} (record { answer = given k; buffer = u }) (record { answer = given n; buffer = w }) → (k ≡ n) × (u ≡ w)
 answer-size {n} {k} e =
     let a : given k ≡ given n = ap (λ (x : Filled). x .answer) e in
     (cc, ap (λ (x : Filled). x .buffer) e)
 
-refused-not : {X : Type 0} {n p k : ℕ} {w u : List ℕ} → _≡_ {A = Filled} (record { answer = declined n p; buffer = u }) (record { answer = given k; buffer = w }) → X
+pub refused-not : {X : Type 0} {n p k : ℕ} {w u : List ℕ} → _≡_ {A = Filled} (record { answer = declined n p; buffer = u }) (record { answer = given k; buffer = w }) → X
 refused-not {X} {n} {p} {k} e = let a : declined n p ≡ given k = ap (λ (x : Filled). x .answer) e in clash (cc)
 
 module _ (s out : List ℕ) (n : ℕ) (w old : List ℕ) (all : AllBytes s) (l : length s ≤ length old) where

@@ -4,19 +4,19 @@ use mathlib.Core.Bool.{Bool, true, false, cond}
 use mathlib.Core.List.{List, [], _∷_, _++_}
 use Prim.Native.Nat.{ℕ, _+_, _≤_, _<_}
 use native.Mathlib.Omega.{arith}
-use lib.ListN.{length, drop, length-drop, length-append}
+use lib.ListN.{length, drop}
 use lib.Dec.{ltb}
 use borrow.Author.Tests.{lt-ltb, le-ltb, ltb-false}
 use Rattle.options.specs.Message.{Rec}
 use Rattle.options.specs.Reading.{either, among}
 use Rattle.options.specs.Answers.{recordBytes, given, unfilled}
-use Rattle.options.specs.SheetWalk.{Walk, allRead, cutAt, readAt, recordsFrom, recordsOf, recordsLeft, AllShort, Whole, Sheet, sound, faulty, keep, ruled}
+use Rattle.options.specs.SheetWalk.{Walk, allRead, cutAt, readAt, recordsFrom, recordsLeft, AllShort, Whole, Sheet, sound, faulty, keep, ruled}
 use Rattle.options.specs.Writing.{optionBytes}
 use Rattle.options.specs.Vendor.{vendorRules, vendorSheet, vendorWrite}
 use Rattle.theorems.proofs.View.{clash}
-use Rattle.writing_theorems.proofs.SheetLaws.{neither, Passes, p-none, p-record, passes, sound-records, Uncut, sound-uncut}
-use Rattle.writing_theorems.proofs.SheetView.{rec, Reads, r-none, r-cut, r-record, reads}
-use Rattle.writing_theorems.proofs.SheetSteps.{bytes-more}
+use Rattle.writing_theorems.proofs.SheetLaws.{neither, Passes, p-none, p-record, passes, sound-records, sound-uncut}
+use Rattle.writing_theorems.proofs.SheetView.{reads}
+use Rattle.writing_theorems.proofs.SheetSteps.{read-to-end}
 use Rattle.buffer.specs.Written.{Written}
 use Rattle.buffer.proofs.Writing.{written-front}
 use Rattle.filled.specs.Fill.{Fills}
@@ -25,7 +25,7 @@ use Rattle.vendor_writer.specs.declared.Judged.{Judged}
 use Rattle.vendor_writer.specs.Judge.{judgeOf, AllBrief}
 
 -- no refusal has the number 0
-other-number : {n k p q : ℕ} → faulty k q ≡ faulty n p → (k ≡ 0 → ⊥) → n ≡ 0 → ⊥
+pub other-number : {n k p q : ℕ} → faulty k q ≡ faulty n p → (k ≡ 0 → ⊥) → n ≡ 0 → ⊥
 other-number {n} {k} e h z = let y : k ≡ n = cc in h (y ∙ z)
 
 faulty-number : (seen : List ℕ) (w : Walk) (n p : ℕ) → ruled vendorRules seen w ≡ faulty n p → n ≡ 0 → ⊥
@@ -59,16 +59,7 @@ pub record Sound (s : List ℕ) (j : Judged) : Type 0 where
   pub brief : AllBrief (recordsLeft s 0)
   pub left : Whole s 0
 
--- a walk that meets no cut record goes to the sheet's end
-to-end : {s : List ℕ} {i : ℕ} {w : Walk} → Reads s i w → Uncut w → i ≤ length s → i + length (recordBytes (recordsOf w)) ≡ length s
-unfolding recordsOf recordBytes
-to-end {s} {i} (r-none e) u l = let z : length (drop i s) ≡ 0 = ap length e in omega (arith, z, length-drop i s)
-to-end (r-cut x) u l = absurd u
-to-end {s} {i} (r-record {c = c} {d = d} {w = w} o r) u l =
-    let n : length (drop i s) ≡ 3 + length d + length (o .after) = ap length (o .reads) ∙ omega (arith, length-append d (o .after)) in
-    omega (arith, to-end r u (omega (arith, n, length-drop i s)), bytes-more (rec c d) (recordsOf w))
-
-short-brief : (rs : List Rec) → AllBrief rs → AllShort rs
+pub short-brief : (rs : List Rec) → AllBrief rs → AllShort rs
 short-brief [] b = tt
 short-brief (r ∷ rs) b = (omega (arith, b .0), short-brief rs (b .1))
 
@@ -82,7 +73,7 @@ module _ (s : List ℕ) (j : Judged) (e : j ≡ judgeOf (vendorSheet s)) where
   sound-as rs q =
       let is : recordsLeft s 0 ≡ rs = sound-records vendorRules [] (recordsFrom 0 0 s) rs q in
       let b : AllBrief rs = brief-of (passes vendorRules [] (recordsFrom 0 0 s) rs q) in
-      let n : 0 + length (recordBytes (recordsLeft s 0)) ≡ length s = to-end (reads s) (sound-uncut vendorRules [] (recordsFrom 0 0 s) rs q) (omega arith) in
+      let n : 0 + length (recordBytes (recordsLeft s 0)) ≡ length s = read-to-end (reads s) (sound-uncut vendorRules [] (recordsFrom 0 0 s) rs q) (omega arith) in
       (is, b, record { to-end = n; short = subst AllShort (sym is) (short-brief rs b) })
 
   pub is-sound : j .number ≡ 0 → Sound s j

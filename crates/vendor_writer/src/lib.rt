@@ -36,7 +36,7 @@ fn broken_rule(tag: u8, size: usize) -> u32
     0
 }
 
-fn faulty(number: u32, place: usize) -> Judged
+pub fn faulty(number: u32, place: usize) -> Judged
     ensures { λ r. ⌜ r ≡ faultyAt number place ⌝ }
 {
     Judged {
@@ -76,7 +76,7 @@ fn judge(s: &[u8]) -> Judged
 
 // Lays the items of the records of s over out from its start on, and gives the place after them. The records are judged: each is whole, and its length is
 // its second length byte.
-fn put_items(s: &[u8], out: &mut [u8]) -> usize
+pub fn put_items(s: &[u8], out: &mut [u8]) -> usize
     requires { ⌜ (length (optionBytes (recordsLeft (now s) 0)) ≤ length (now out)) × AllBrief (recordsLeft (now s) 0) × Whole (now s) 0 ⌝ }
     ensures { λ r. ⌜ Written (now (out .entry)) 0 (optionBytes (recordsLeft (now (s .entry)) 0)) r (now (out .exit)) ⌝ }
 {
@@ -95,7 +95,7 @@ fn put_items(s: &[u8], out: &mut [u8]) -> usize
 }
 
 // Whether the items exceed the n bytes of the output, or what an option 43 can hold in one piece.
-fn too_small(n: usize, total: usize) -> bool
+pub fn too_small(n: usize, total: usize) -> bool
     ensures { λ r. ⌜ r ≡ either (ltb longestVendor total) (ltb n total) ⌝ }
 {
     if 255 < total {

@@ -3,7 +3,7 @@ ghost use mathlib.Core.Path.{_≡_};
 ghost use Prim.Native.Nat.{_<_};
 ghost use lib.ListN.{length, getD, drop};
 ghost use Rattle.options.specs.Reading.{parse};
-ghost use Rattle.wire.specs.Ahead.{nextOf};
+ghost use Rattle.wire.specs.Ahead.{nextOf, SpotKeepsTheOption};
 
 // What a field holds from an offset on, pads passed over.
 pub enum Spot {
@@ -48,3 +48,8 @@ pub fn next_option(f: &[u8], from: usize) -> Spot
     }
     Spot::Stop
 }
+
+// The statements of specs/ hold.
+pub fn proved()
+    ensures { λ _. ⌜ SpotKeepsTheOption ⌝ }
+{}

@@ -4,3 +4,4 @@ pub mod First
 pub mod Plans
 pub mod Parts
 pub mod Used
+pub mod Cases

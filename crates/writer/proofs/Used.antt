@@ -9,10 +9,11 @@ use borrow.Author.Tests.{ltb-false, leb-true}
 use Rattle.options.specs.Message.{Rec}
 use Rattle.options.specs.Kinds.{kinds}
 use Rattle.options.specs.SheetWalk.{recordsLeft, Sheet, sound, faulty}
-use Rattle.options.specs.Writing.{splitAll, Wrote, wrote, declined, planFits, written, plans, sheet, threeBeforeOne, placeOf3, afterSheet, writer}
+use Rattle.options.specs.Writing.{splitAll, Wrote, wrote, declined, planFits, written, plans, sheet, inOrder, afterSheet, writer}
 use Rattle.theorems.proofs.View.{clash}
 use Rattle.writing_theorems.proofs.Demand.{passed, both}
 use Rattle.writing_theorems.proofs.Writer.{used-fits}
+use Rattle.writing_theorems.proofs.SheetLaws.{in-order-sound}
 use Rattle.writing_theorems.proofs.SheetSteps.{whole-left}
 use Rattle.writing_theorems.proofs.PieceSteps.{pieces-at-record, between-records}
 use Rattle.plan.specs.Answer.{answerOf, singleOf}
@@ -39,12 +40,11 @@ module _ (s m : List ℕ) (permission p single : ℕ) (b : List ℕ) (g : single
   unfolding planFits
   has-room rs f = leb-true (leastRoom p) (length m - 240) (both _ _ f .0)
 
-  by-sheet : (w : Sheet) → sheet kinds s ≡ w → 240 ≤ length m → length s ≤ 4096 → afterSheet m (plans permission) w ≡ wrote p b → Used s m permission p single
+  by-sheet : (w : Sheet) → inOrder (sheet kinds s) ≡ w → 240 ≤ length m → length s ≤ 4096 → afterSheet m (plans permission) w ≡ wrote p b → Used s m permission p single
   by-sheet (faulty n i) q h few a = clash (cc)
   by-sheet (sound rs) q h few a =
-      let t = passed (threeBeforeOne rs) 14 (placeOf3 rs) _ p b a .1 in
-      let f = used-fits m (splitAll rs) (plans permission) p b t in
-      let l = whole-left kinds s rs q in
+      let f = used-fits m (splitAll rs) (plans permission) p b a in
+      let l = whole-left kinds s rs (in-order-sound (sheet kinds s) rs q) in
       record {
         long = h;
         room = has-room (splitAll rs) (f .0);
@@ -60,7 +60,7 @@ module _ (s m : List ℕ) (permission p single : ℕ) (b : List ℕ) (g : single
       let two = passed (ltb 1472 (length m)) 2 (length m) _ p b (one .1) in
       let three = passed (ltb 3 permission) 15 0 _ p b (two .1) in
       let four = passed (ltb 4096 (length s)) 16 (length s) _ p b (three .1) in
-      by-sheet (sheet kinds s) refl (ltb-false (length m) 240 (one .0)) (ltb-false 4096 (length s) (four .0)) (four .1)
+      by-sheet (inOrder (sheet kinds s)) refl (ltb-false (length m) 240 (one .0)) (ltb-false 4096 (length s) (four .0)) (four .1)
 
 plan-inj : (p q k j : ℕ) → Plan p k ≡ Plan q j → (p ≡ q) × (k ≡ j)
 plan-inj p q k j e = (cc, cc)

@@ -10,9 +10,14 @@ ghost use Rattle.options.specs.Writing.{with52, fitsIf, pastOptions, written, w
 ghost use Rattle.plan.specs.Steps.{leftOver, From};
 ghost use Rattle.plan.specs.Pieces.{sizeOf, pieceOf};
 ghost use Rattle.writer.specs.Fill.{filled, leastRoom, placeIn, doneIn, piecesAt, Spot, Left};
-ghost use Rattle.writer.specs.Writer.{Gives};
+ghost use Rattle.writer.specs.Writer.{Gives, GivesByCase};
 use plan::Choice;
 use plan::Piece;
+
+// Each case of the answer, with what is left in the buffer.
+pub fn proved()
+    ensures { λ _. ⌜ GivesByCase ⌝ }
+{}
 
 fn put_cookie(room: &mut [u8])
     requires { ⌜ length (now room) ≡ 4 ⌝ }

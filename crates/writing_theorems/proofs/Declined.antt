@@ -13,15 +13,15 @@ use Rattle.options.specs.Refusals.{When, Before, by-part, by-offset, by-number}
 use Rattle.options.specs.Kinds.{Table}
 use Rattle.options.specs.Answers.{recordBytes}
 use Rattle.options.specs.KindClaims.{AllBytes}
-use Rattle.options.specs.Sheet.{Listed, first}
-use Rattle.options.specs.SheetRefusals.{SheetRow, row-7}
+use Rattle.options.specs.SheetRefusals.{SheetRow, OrderRow, row-14, row-23}
 use Rattle.options.specs.SheetWalk.{AllShort, Sheet, sound, faulty}
-use Rattle.options.specs.Writing.{splitAll, sheet, Wrote, wrote, declined, threeBeforeOne, placeOf3, planFits, permittedPlans, plans, tryPlans, afterSheet, written, writer}
-use Rattle.options.specs.WriterClaims.{Has, SheetPieces, Permitted, Holding, step, WriteRow, write-1, write-2, write-15, write-16, write-record, write-14, write-11, FirstWriteRow, WriterSays, RefusesByTheTable, CorrectWrite, DeclinedIff}
+use Rattle.options.specs.Writing.{splitAll, sheet, Wrote, wrote, declined, inOrder, planFits, permittedPlans, plans, tryPlans, afterSheet, written, writer}
+use Rattle.options.specs.WriterClaims.{Has, SheetPieces, Permitted, Holding, step, WriteRow, write-1, write-2, write-15, write-16, write-record, write-order, write-11, FirstWriteRow, WriterSays, RefusesByTheTable, CorrectWrite, DeclinedIff}
 use Rattle.theorems.proofs.View.{clash}
 use Rattle.theorems.proofs.Reading.{order}
-use Rattle.writing_theorems.proofs.SheetLaws.{sound-sheet}
-use Rattle.writing_theorems.proofs.SheetRows.{FirstSheetRow, Judges, judges, three-first, three-later, same-number}
+use Rattle.writing_theorems.proofs.SheetLaws.{sound-sheet, in-order-sound}
+use Rattle.writing_theorems.proofs.SheetRows.{FirstSheetRow, Judges, judges, same-number}
+use Rattle.writing_theorems.proofs.SheetOrder.{FirstOrderRow, InOrder, in-order}
 use Rattle.writing_theorems.proofs.Writer.{piecesOf, same-pieces, writer-writes}
 use Rattle.writing_theorems.proofs.Plans.{holding, fitting, fits-of}
 use Rattle.writing_theorems.proofs.Tries.{same-tries, is-permitted, permitted-is}
@@ -34,7 +34,7 @@ module _ (t : Table) (s m : List ℕ) (permission : ℕ) where
     l-15 : 3 < k → 3 < permission → ⊥
     l-16 : 4 < k → 4096 < length s → ⊥
     l-record : 5 < k → (n i q : ℕ) → SheetRow t s n i q → ⊥
-    l-14 : 6 < k → (i j : ℕ) (d e : List ℕ) → Listed s i 3 d → i < j → Listed s j 1 e → ⊥
+    l-order : 6 < k → (n i q : ℕ) → OrderRow s n i q → ⊥
     l-11 : 7 < k → (x : SheetPieces s) → ((p : ℕ) → Permitted permission p → Holding p (length m - 240) (x .pieces) → ⊥) → ⊥
 
   none-early : (k : ℕ) → Late k → {n p : ℕ} {w : When} → WriteRow t s m permission n p w → w .part < k → ⊥
@@ -43,7 +43,7 @@ module _ (t : Table) (s m : List ℕ) (permission : ℕ) where
   none-early k f (write-15 h) l = f .l-15 l h
   none-early k f (write-16 h) l = f .l-16 l h
   none-early k f (write-record {n = n} {i = i} {rank = q} h) l = f .l-record l n i q h
-  none-early k f (write-14 {i = i} {j = j} {d = d} {e = e} a b c) l = f .l-14 l i j d e a b c
+  none-early k f (write-order {n = n} {i = i} {rank = q} h) l = f .l-order l n i q h
   none-early k f (write-11 x h) l = f .l-11 l x h
 
   first-step : (k n p : ℕ) → Late k → WriteRow t s m permission n p (step k) → FirstWriteRow t s m permission n p
@@ -54,15 +54,24 @@ module _ (t : Table) (s m : List ℕ) (permission : ℕ) where
       none x (by-offset e l) = omega arith
       none x (by-number e d l) = omega arith
 
-  -- the rows of records, and of 14, by their step
+  -- the rows of records, and of their order, by their step
   at-5 : {n p : ℕ} {w : When} → WriteRow t s m permission n p w → w .part ≡ 5 → SheetRow t s n (w .offset) (w .number)
   at-5 (write-1 h) e = absurd (omega arith)
   at-5 (write-2 h) e = absurd (omega arith)
   at-5 (write-15 h) e = absurd (omega arith)
   at-5 (write-16 h) e = absurd (omega arith)
   at-5 (write-record h) e = h
-  at-5 (write-14 a b c) e = absurd (omega arith)
+  at-5 (write-order h) e = absurd (omega arith)
   at-5 (write-11 x h) e = absurd (omega arith)
+
+  at-6 : {n p : ℕ} {w : When} → WriteRow t s m permission n p w → w .part ≡ 6 → OrderRow s n (w .number) (w .offset)
+  at-6 (write-1 h) e = absurd (omega arith)
+  at-6 (write-2 h) e = absurd (omega arith)
+  at-6 (write-15 h) e = absurd (omega arith)
+  at-6 (write-16 h) e = absurd (omega arith)
+  at-6 (write-record h) e = absurd (omega arith)
+  at-6 (write-order h) e = h
+  at-6 (write-11 x h) e = absurd (omega arith)
 
   first-record : (n i : ℕ) → Late 5 → FirstSheetRow t s n i → FirstWriteRow t s m permission n i
   first-record n i f r = record { when = record { part = 5; offset = i; number = r .rank }; applies = write-record (r .applies); none-before = λ x b. none x b }
@@ -72,26 +81,13 @@ module _ (t : Table) (s m : List ℕ) (permission : ℕ) where
       none {a} {q} {w} x (by-offset e l) = ⊎-elim (λ (z : i < w .offset). omega arith) (λ (z : (i ≡ w .offset) × (r .rank ≤ w .number)). omega (arith, z .0)) (r .none-before (at-5 x e))
       none {a} {q} {w} x (by-number e d l) = ⊎-elim (λ (z : i < w .offset). omega arith) (λ (z : (i ≡ w .offset) × (r .rank ≤ w .number)). omega (arith, z .1)) (r .none-before (at-5 x e))
 
-  module _ (clean : (n i q : ℕ) → SheetRow t s n i q → ⊥) where
-    once : (i j c : ℕ) (d e : List ℕ) → Listed s i c d → Listed s j c e → i < j → ⊥
-    once i j c d e a b l = clean 7 j 3 (row-7 b l a)
-
-    at-6 : {n p : ℕ} {w : When} → WriteRow t s m permission n p w → w .part ≡ 6 → (d : List ℕ) × Listed s (w .offset) 3 d
-    at-6 (write-1 h) e = absurd (omega arith)
-    at-6 (write-2 h) e = absurd (omega arith)
-    at-6 (write-15 h) e = absurd (omega arith)
-    at-6 (write-16 h) e = absurd (omega arith)
-    at-6 (write-record h) e = absurd (omega arith)
-    at-6 (write-14 {d = d} a b c) e = (d, a)
-    at-6 (write-11 x h) e = absurd (omega arith)
-
-    first-14 : (i j : ℕ) (d e : List ℕ) → Late 6 → Listed s i 3 d → i < j → Listed s j 1 e → FirstWriteRow t s m permission 14 i
-    first-14 i j d e f a l b = record { when = record { part = 6; offset = i; number = 0 }; applies = write-14 a l b; none-before = λ x y. none x y }
-      where
-        none : {k q : ℕ} {w : When} → WriteRow t s m permission k q w → Before w (record { part = 6; offset = i; number = 0 }) → ⊥
-        none x (by-part y) = none-early 6 f x y
-        none {k} {q} {w} x (by-offset z y) = let r = at-6 x z in once (w .offset) i 3 (r .0) d (r .1) a y
-        none x (by-number z v y) = omega arith
+  first-order : (n i : ℕ) → Late 6 → FirstOrderRow s n i → FirstWriteRow t s m permission n i
+  first-order n i f r = record { when = record { part = 6; offset = r .rank; number = i }; applies = write-order (r .applies); none-before = λ x b. none x b }
+    where
+      none : {a q : ℕ} {w : When} → WriteRow t s m permission a q w → Before w (record { part = 6; offset = r .rank; number = i }) → ⊥
+      none x (by-part l) = none-early 6 f x l
+      none {a} {q} {w} x (by-offset e l) = ⊎-elim (λ (z : r .rank < w .offset). omega arith) (λ (z : (r .rank ≡ w .offset) × (i ≤ w .number)). omega (arith, z .0)) (r .none-before (at-6 x e))
+      none {a} {q} {w} x (by-number e d l) = ⊎-elim (λ (z : r .rank < w .offset). omega arith) (λ (z : (r .rank ≡ w .offset) × (i ≤ w .number)). omega (arith, z .1)) (r .none-before (at-6 x e))
 
 -- ---- the plans
 
@@ -122,7 +118,7 @@ module _ (t : Table) (s m : List ℕ) (permission : ℕ) (h1 : 240 ≤ length m)
         l-15 = λ l x. omega arith;
         l-16 = λ l x. omega arith;
         l-record = λ l. absurd (omega arith);
-        l-14 = λ l. absurd (omega arith);
+        l-order = λ l. absurd (omega arith);
         l-11 = λ l. absurd (omega arith);
       }
 
@@ -135,11 +131,11 @@ module _ (t : Table) (s m : List ℕ) (permission : ℕ) (h1 : 240 ≤ length m)
           l-15 = λ l x. omega arith;
           l-16 = λ l x. omega arith;
           l-record = λ l. clean;
-          l-14 = λ l. absurd (omega arith);
+          l-order = λ l. absurd (omega arith);
           l-11 = λ l. absurd (omega arith);
         }
 
-    module _ (no-14 : (i j : ℕ) (d e : List ℕ) → Listed s i 3 d → i < j → Listed s j 1 e → ⊥) where
+    module _ (orderly : (n i q : ℕ) → OrderRow s n i q → ⊥) where
       late-7 : Late t s m permission 7
       late-7 =
           record {
@@ -148,7 +144,7 @@ module _ (t : Table) (s m : List ℕ) (permission : ℕ) (h1 : 240 ≤ length m)
             l-15 = λ l x. omega arith;
             l-16 = λ l x. omega arith;
             l-record = λ l. clean;
-            l-14 = λ l. no-14;
+            l-order = λ l. orderly;
             l-11 = λ l. absurd (omega arith);
           }
 
@@ -160,7 +156,7 @@ module _ (t : Table) (s m : List ℕ) (permission : ℕ) (h1 : 240 ≤ length m)
             l-15 = λ l x. omega arith;
             l-16 = λ l x. omega arith;
             l-record = λ l. clean;
-            l-14 = λ l. no-14;
+            l-order = λ l. orderly;
             l-11 = λ l x f. f q a (subst (Holding q (length m - 240)) (same-pieces s (piecesOf s rs is) x) h);
           }
 
@@ -170,7 +166,7 @@ module _ (t : Table) (s m : List ℕ) (permission : ℕ) (h1 : 240 ≤ length m)
       step-8 (write-15 h) = omega arith
       step-8 (write-16 h) = omega arith
       step-8 (write-record h) = omega arith
-      step-8 (write-14 a b c) = omega arith
+      step-8 (write-order h) = omega arith
       step-8 (write-11 x h) = omega arith
 
       plans-say : (x : Wrote) → Tried m (splitAll rs) (permittedPlans permission) x → WriterSays t s m permission x
@@ -182,35 +178,33 @@ module _ (t : Table) (s m : List ℕ) (permission : ℕ) (h1 : 240 ≤ length m)
       plans-say (wrote q w) y =
           λ n p x r. none-early t s m permission 8 (late-8 q (is-permitted permission q h3 (y .0)) (holding q (length m - 240) (splitAll rs) (fits-of q (length m - 240) (splitAll rs) (y .1)))) r (step-8 r)
 
-    sound-says : WriterSays t s m permission (cond (threeBeforeOne rs) (declined 14 (placeOf3 rs)) (tryPlans (plans permission) m (splitAll rs)))
-    sound-says = go (threeBeforeOne rs) refl
+    ordered-says : (x : Sheet) → inOrder (sound rs) ≡ x → InOrder s x → WriterSays t s m permission (afterSheet m (plans permission) x)
+    ordered-says (faulty n p) e o = first-order t s m permission n p late-6 o
+    ordered-says (sound ts) e o =
+        subst (λ (ys : List Rec). WriterSays t s m permission (tryPlans (plans permission) m (splitAll ys))) (sound-same rs ts (in-order-sound (sound rs) ts e))
+        (plans-say o (tryPlans (plans permission) m (splitAll rs))
+        (subst (Tried m (splitAll rs) (permittedPlans permission)) (same-tries permission m (splitAll rs)) (tried m (splitAll rs) (permittedPlans permission))))
       where
-        go : (b : Bool) → threeBeforeOne rs ≡ b → WriterSays t s m permission (cond b (declined 14 (placeOf3 rs)) (tryPlans (plans permission) m (splitAll rs)))
-        go true e =
-            let r = three-first s 0 rs short first is e in
-            let z : 0 + placeOf3 rs ≡ placeOf3 rs = omega arith in
-            subst (λ (k : ℕ). FirstWriteRow t s m permission 14 k) z (first-14 t s m permission clean (0 + placeOf3 rs) (r .2) (r .0) (r .1) late-6 (r .3) (r .4) (r .5))
-        go false e =
-            plans-say (λ i j d f a l b. three-later s (once t s m permission clean) i j d f rs short is e a l b) (tryPlans (plans permission) m (splitAll rs))
-            (subst (Tried m (splitAll rs) (permittedPlans permission)) (same-tries permission m (splitAll rs)) (tried m (splitAll rs) (permittedPlans permission)))
+        sound-same : (ys zs : List Rec) → sound ys ≡ sound zs → ys ≡ zs
+        sound-same ys zs q = cc
 
-  sheet-says : (x : Sheet) → AllBytes s → sheet t s ≡ x → Judges t s x → WriterSays t s m permission (afterSheet m (plans permission) x)
+  sheet-says : (x : Sheet) → AllBytes s → sheet t s ≡ x → Judges t s x → WriterSays t s m permission (afterSheet m (plans permission) (inOrder x))
   sheet-says (faulty n p) all e j = first-record t s m permission n p late-5 j
-  sheet-says (sound rs) all e j = let f = sound-sheet t s rs e in sound-says rs (f .short) (f .back all) j
+  sheet-says (sound rs) all e j = let f = sound-sheet t s rs e in ordered-says rs (f .short) (f .back all) j (inOrder (sound rs)) refl (in-order t s rs (f .short) (f .back all) j)
 
 pub refuses-by-the-table : RefusesByTheTable
 unfolding writer
 refuses-by-the-table t s m permission all = go (ltb (length m) 240) (ltb 1472 (length m)) (ltb 3 permission) (ltb 4096 (length s)) refl refl refl refl
   where
     go : (a b c d : Bool) → ltb (length m) 240 ≡ a → ltb 1472 (length m) ≡ b → ltb 3 permission ≡ c → ltb 4096 (length s) ≡ d
-        → WriterSays t s m permission (cond a (declined 1 (length m)) (cond b (declined 2 (length m)) (cond c (declined 15 0) (cond d (declined 16 (length s)) (afterSheet m (plans permission) (sheet t s))))))
+        → WriterSays t s m permission (cond a (declined 1 (length m)) (cond b (declined 2 (length m)) (cond c (declined 15 0) (cond d (declined 16 (length s)) (afterSheet m (plans permission) (inOrder (sheet t s)))))))
     go true b c d ea eb ec ed = first-step t s m permission 1 1 (length m) (record {
       l-1 = λ l. absurd (omega arith);
       l-2 = λ l. absurd (omega arith);
       l-15 = λ l. absurd (omega arith);
       l-16 = λ l. absurd (omega arith);
       l-record = λ l. absurd (omega arith);
-      l-14 = λ l. absurd (omega arith);
+      l-order = λ l. absurd (omega arith);
       l-11 = λ l. absurd (omega arith);
     }) (write-1 (ltb-true _ _ ea))
     go false true c d ea eb ec ed = first-step t s m permission 2 2 (length m) (record {
@@ -219,7 +213,7 @@ refuses-by-the-table t s m permission all = go (ltb (length m) 240) (ltb 1472 (l
       l-15 = λ l. absurd (omega arith);
       l-16 = λ l. absurd (omega arith);
       l-record = λ l. absurd (omega arith);
-      l-14 = λ l. absurd (omega arith);
+      l-order = λ l. absurd (omega arith);
       l-11 = λ l. absurd (omega arith);
     }) (write-2 (ltb-true _ _ eb))
     go false false true d ea eb ec ed = first-step t s m permission 3 15 0 (record {
@@ -228,7 +222,7 @@ refuses-by-the-table t s m permission all = go (ltb (length m) 240) (ltb 1472 (l
       l-15 = λ l. absurd (omega arith);
       l-16 = λ l. absurd (omega arith);
       l-record = λ l. absurd (omega arith);
-      l-14 = λ l. absurd (omega arith);
+      l-order = λ l. absurd (omega arith);
       l-11 = λ l. absurd (omega arith);
     }) (write-15 (ltb-true _ _ ec))
     go false false false true ea eb ec ed = first-step t s m permission 4 16 (length s) (record {
@@ -237,7 +231,7 @@ refuses-by-the-table t s m permission all = go (ltb (length m) 240) (ltb 1472 (l
       l-15 = λ l x. omega (arith, ltb-false 3 permission ec);
       l-16 = λ l. absurd (omega arith);
       l-record = λ l. absurd (omega arith);
-      l-14 = λ l. absurd (omega arith);
+      l-order = λ l. absurd (omega arith);
       l-11 = λ l. absurd (omega arith);
     }) (write-16 (ltb-true _ _ ed))
     go false false false false ea eb ec ed =
@@ -250,11 +244,11 @@ writer-correct t s m permission (wrote q w) all e = (subst (WriterSays t s m per
 
 -- ---- the first row is one
 
-abbrev stepNumber : ℕ → ℕ
-stepNumber k = cond (eqb k 1) 1 (cond (eqb k 2) 2 (cond (eqb k 3) 15 (cond (eqb k 4) 16 (cond (eqb k 6) 14 11))))
+abbrev stepNumber : When → ℕ
+stepNumber w = cond (eqb (w .part) 1) 1 (cond (eqb (w .part) 2) 2 (cond (eqb (w .part) 3) 15 (cond (eqb (w .part) 4) 16 (cond (eqb (w .part) 6) (cond (eqb (w .offset) 0) 14 23) 11))))
 
 abbrev stepPlace : List ℕ → List ℕ → When → ℕ
-stepPlace s m w = cond (eqb (w .part) 3) 0 (cond (eqb (w .part) 4) (length s) (cond (eqb (w .part) 5) (w .offset) (cond (eqb (w .part) 6) (w .offset) (length m))))
+stepPlace s m w = cond (eqb (w .part) 3) 0 (cond (eqb (w .part) 4) (length s) (cond (eqb (w .part) 5) (w .offset) (cond (eqb (w .part) 6) (w .number) (length m))))
 
 module _ {t : Table} {s m : List ℕ} {permission : ℕ} where
   place-told : {n p : ℕ} {w : When} → WriteRow t s m permission n p w → p ≡ stepPlace s m w
@@ -263,16 +257,17 @@ module _ {t : Table} {s m : List ℕ} {permission : ℕ} where
   place-told (write-15 h) = refl
   place-told (write-16 h) = refl
   place-told (write-record h) = refl
-  place-told (write-14 a b c) = refl
+  place-told (write-order h) = refl
   place-told (write-11 x h) = refl
 
-  number-told : {n p : ℕ} {w : When} → WriteRow t s m permission n p w → (w .part ≡ 5 → ⊥) → n ≡ stepNumber (w .part)
+  number-told : {n p : ℕ} {w : When} → WriteRow t s m permission n p w → (w .part ≡ 5 → ⊥) → n ≡ stepNumber w
   number-told (write-1 h) x = refl
   number-told (write-2 h) x = refl
   number-told (write-15 h) x = refl
   number-told (write-16 h) x = refl
   number-told (write-record h) x = absurd (x refl)
-  number-told (write-14 a b c) x = refl
+  number-told (write-order (row-14 a b c)) x = refl
+  number-told (write-order (row-23 a b c)) x = refl
   number-told (write-11 y h) x = refl
 
   same-row : {n p k q : ℕ} {w x : When} → w ≡ x → WriteRow t s m permission n p w → WriteRow t s m permission k q x → (n ≡ k) × (p ≡ q)

@@ -17,9 +17,9 @@ use Rattle.options.specs.Answers.{Origin, known, Answer, Absent, Found, isKnown
 use Rattle.options.specs.ReadingClaims.{IsAccepted}
 use Rattle.options.specs.AnswerClaims.{JoinedBytes, GivesLength}
 use Rattle.options.specs.SheetWalk.{AllShort, Sheet, sound, faulty, isBroken}
-use Rattle.options.specs.Writing.{with52, splitUp, splitAll, written, pastSname, sheet, Wrote, wrote, declined, isNil, planFits, threeBeforeOne, placeOf3, plans, tryPlans, afterSheet, writer}
+use Rattle.options.specs.Writing.{with52, splitUp, splitAll, written, pastSname, sheet, Wrote, wrote, declined, isNil, planFits, inOrder, plans, tryPlans, afterSheet, writer}
 use Rattle.options.specs.WriterClaims.{Has, allData}
-use Rattle.options.specs.WritingClaims.{RecordIn, NoRecord, SameRecord, WrittenIsAccepted, SheetComesBack, BytesOf, SameButPlace, both-absent, both-found, IsKind, is-number, is-part, wholenessFor, ReadsAsUnknown, Demand3, Demand3OfKinds}
+use Rattle.options.specs.WritingClaims.{RecordIn, NoRecord, SameRecord, WrittenIsAccepted, SheetComesBack, BytesOf, SameButPlace, both-absent, both-found, IsKind, is-number, is-part, wholenessFor, ReadsAsUnknown, Demand3Known, Demand3Others, Demand3, Demand3OfKinds}
 use Rattle.theorems.proofs.View.{clash}
 use Rattle.theorems.proofs.Pieces.{pieces-right}
 use Rattle.theorems.proofs.Lookup.{asked, lookup-found}
@@ -30,7 +30,7 @@ use Rattle.writing_theorems.proofs.Written.{AllPlain, Fits, read-writte
 use Rattle.writing_theorems.proofs.SheetView.{rec}
 use Rattle.writing_theorems.proofs.Splitting.{all-plain}
 use Rattle.writing_theorems.proofs.Joining.{Fresh, records-back, withCode, pieces-items, of-none, of-record, of-plan, end-items, split-data, split-some, whole-told}
-use Rattle.writing_theorems.proofs.SheetLaws.{Sound, sound-sheet, AllKinds, kind-of}
+use Rattle.writing_theorems.proofs.SheetLaws.{Sound, sound-sheet, in-order-sound, AllKinds, kind-of}
 use Rattle.writing_theorems.proofs.SheetRows.{has-record, record-has}
 
 -- a refusal that is not there
@@ -92,12 +92,11 @@ record Accepted (t : Table) (s w : List ℕ) : Type 0 where
   reads : readMessage w ≡ accepted opts
   in-order : items opts ≡ with52 plan (splitAll records)
 
-after : (t : Table) (s m : List ℕ) (permission q : ℕ) (w : List ℕ) (x : Sheet) → sheet t s ≡ x → 240 ≤ length m → length m ≤ 1472 → afterSheet m (plans permission) x ≡ wrote q w → Accepted t s w
+after : (t : Table) (s m : List ℕ) (permission q : ℕ) (w : List ℕ) (x : Sheet) → inOrder (sheet t s) ≡ x → 240 ≤ length m → length m ≤ 1472 → afterSheet m (plans permission) x ≡ wrote q w → Accepted t s w
 after t s m permission q w (faulty n p) x h l e = clash (cc)
 after t s m permission q w (sound rs) x h l e =
-    let r : (threeBeforeOne rs ≡ false) × (tryPlans (plans permission) m (splitAll rs) ≡ wrote q w) = passed (threeBeforeOne rs) 14 (placeOf3 rs) _ q w e in
-    let u : Used q w m (splitAll rs) = used (plans permission) m (splitAll rs) q w (small-plans permission) (r .1) in
-    let f : Sound t s rs = sound-sheet t s rs x in
+    let u : Used q w m (splitAll rs) = used (plans permission) m (splitAll rs) q w (small-plans permission) e in
+    let f : Sound t s rs = sound-sheet t s rs (in-order-sound (sheet t s) rs x) in
     record {
       plan = q;
       records = rs;
@@ -118,7 +117,7 @@ accepts t s m permission q w e =
     let p2 : (ltb 1472 (length m) ≡ false) × _ = passed (ltb 1472 (length m)) 2 (length m) _ q w (p1 .1) in
     let p3 : (ltb 3 permission ≡ false) × _ = passed (ltb 3 permission) 15 0 _ q w (p2 .1) in
     let p4 : (ltb 4096 (length s) ≡ false) × _ = passed (ltb 4096 (length s)) 16 (length s) _ q w (p3 .1) in
-    after t s m permission q w (sheet t s) refl (ltb-false (length m) 240 (p1 .0)) (ltb-false 1472 (length m) (p2 .0)) (p4 .1)
+    after t s m permission q w (inOrder (sheet t s)) refl (ltb-false (length m) 240 (p1 .0)) (ltb-false 1472 (length m) (p2 .0)) (p4 .1)
 
 -- ---- the sheet comes back
 
@@ -226,11 +225,9 @@ kind-shown t set c d g k unbroken = rw k (go (t .value c d) unbroken)
     go (number x z) b = is-number
     go (part x n) b = is-part
 
-pub demand-3 : Demand3
-demand-3 t proper set s s′ m m′ permission permission′ plan plan′ w w′ all all′ e e′ same-records c l u n52 = (
-  (λ k. record { same = same (same-records c k); absent-iff = nowhere (same-records c k); else-kind = kind k }),
-  (λ k. (reads-as-unknown t s w all a c n52 set l u k, reads-as-unknown t s′ w′ all′ a′ c n52 set l u k)),
-)
+pub demand-3-known : Demand3Known
+demand-3-known t proper set s s′ m m′ permission permission′ plan plan′ w w′ all all′ e e′ c l u n52 k same-record =
+    record { same = same same-record; absent-iff = nowhere same-record; else-kind = kind }
   where
     a : Accepted t s w
     a = accepts t s m permission plan w e
@@ -257,10 +254,19 @@ demand-3 t proper set s s′ m m′ permission permission′ plan plan′ w w′
         (both-found (h .told ∙ sym (h′ .told))
         (λ n g. (take n (r .0), bytes-given t proper set c (r .0) w n (h .joined) g, bytes-given t proper set c (r .0) w′ n (h′ .joined) g)))
 
-    kind : isKnown t set c ≡ true → (d : List ℕ) → RecordIn c d s → IsKind (lookup t set w c)
-    kind k d r =
+    kind : (d : List ℕ) → RecordIn c d s → IsKind (lookup t set w c)
+    kind d r =
         let h = record-shown t s w all a c n52 set l u d r in
         rw (h .is) (kind-shown t set c d (h .origin) k (unbroken t s w all a c n52 set l u k d r))
+
+pub demand-3-others : Demand3Others
+demand-3-others t set s m permission plan w all e c l u n52 k = reads-as-unknown t s w all (accepts t s m permission plan w e) c n52 set l u k
+
+pub demand-3 : Demand3
+demand-3 t proper set s s′ m m′ permission permission′ plan plan′ w w′ all all′ e e′ same-records c l u n52 = (
+  (λ k. demand-3-known t proper set s s′ m m′ permission permission′ plan plan′ w w′ all all′ e e′ c l u n52 k (same-records c k)),
+  (λ k. (demand-3-others t set s m permission plan w all e c l u n52 k, demand-3-others t set s′ m′ permission′ plan′ w′ all′ e′ c l u n52 k)),
+)
 
 pub demand-3-of-kinds : Demand3OfKinds
 demand-3-of-kinds words = demand-3 kinds kinds-proper (marked words)

@@ -10,6 +10,7 @@ pub mod SheetLaws
 pub mod SheetSteps
 pub mod PieceSteps
 pub mod SheetRows
+pub mod SheetOrder
 -- The return of the sheet, and demand 3
 pub mod Demand
 pub mod IndexedDemand
@@ -21,6 +22,7 @@ pub mod Tries
 pub mod Writer
 pub mod Declined
 pub mod WriterOnly
+pub mod Options
 -- Where no cutting of the pieces holds them, there is no room
 pub mod Cuttings
 pub mod Room

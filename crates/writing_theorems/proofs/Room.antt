@@ -10,9 +10,9 @@ use Rattle.options.specs.Message.{Rec}
 use Rattle.options.specs.Refusals.{When, Before, by-part, by-offset, by-number}
 use Rattle.options.specs.Kinds.{Table, kinds}
 use Rattle.options.specs.KindClaims.{AllBytes}
-use Rattle.options.specs.SheetRefusals.{SheetRow, row-12, row-10, row-13, row-7, row-8-9}
+use Rattle.options.specs.SheetRefusals.{SheetRow, row-12, row-10, row-13, row-7, row-8-9, row-14, row-23}
 use Rattle.options.specs.Writing.{Wrote, wrote, declined, writer}
-use Rattle.options.specs.WriterClaims.{SheetPieces, Permitted, step, WriteRow, write-1, write-2, write-15, write-16, write-record, write-14, write-11, FirstWriteRow, Holding, Cutting, EarlierPassed, NoCutting, NoRoomMeansNoRoom, ElevenIsNoRoom, LowestCutting, PlanIsLowest}
+use Rattle.options.specs.WriterClaims.{SheetPieces, Permitted, step, WriteRow, write-1, write-2, write-15, write-16, write-record, write-order, write-11, FirstWriteRow, Holding, Cutting, EarlierPassed, NoCutting, NoRoomMeansNoRoom, ElevenIsNoRoom, LowestCutting, PlanIsLowest}
 use Rattle.theorems.proofs.KindRules.{broken-8-or-9}
 use Rattle.writing_theorems.proofs.Cuttings.{cut-of, cut-held}
 use Rattle.writing_theorems.proofs.Writer.{writer-writes, same-pieces}
@@ -27,7 +27,7 @@ at-seven (write-2 h) z = absurd (z (omega arith))
 at-seven (write-15 h) z = absurd (z (omega arith))
 at-seven (write-16 h) z = absurd (z (omega arith))
 at-seven (write-record h) z = absurd (z (omega arith))
-at-seven (write-14 a b c) z = absurd (z (omega arith))
+at-seven (write-order h) z = absurd (z (omega arith))
 at-seven {m = m} (write-11 x h) z = (refl, refl, record { of-sheet = x; none = λ p a c. h p a (cut-held p (length m - 240) (x .pieces) c) })
 
 module _ (t : Table) (s m : List ℕ) (permission : ℕ) where
@@ -72,7 +72,8 @@ eleven-seven (write-2 h) e = absurd (omega arith)
 eleven-seven (write-15 h) e = absurd (omega arith)
 eleven-seven (write-16 h) e = absurd (omega arith)
 eleven-seven (write-record h) e = absurd (not-eleven h e)
-eleven-seven (write-14 a b c) e = absurd (omega arith)
+eleven-seven (write-order (row-14 a b c)) e = absurd (omega arith)
+eleven-seven (write-order (row-23 a b c)) e = absurd (omega arith)
 eleven-seven (write-11 x h) e = refl
 
 pub eleven-is-no-room : ElevenIsNoRoom

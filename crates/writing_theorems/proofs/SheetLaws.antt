@@ -16,7 +16,7 @@ use Rattle.options.specs.Answers.{recordBytes}
 use Rattle.options.specs.KindClaims.{AllBytes}
 use Rattle.options.specs.SheetWalk.{Walk, allRead, cutAt, readAt, recordsFrom, recordsOf, AllShort, Sheet, sound, faulty, keep, breaksKind, Rule, tested, ruled}
 use Rattle.options.specs.RuleClaims.{CorrectSheet}
-use Rattle.options.specs.Writing.{writerRules, sheet}
+use Rattle.options.specs.Writing.{writerRules, sheet, OrderRule, placeOf, ordered, orderRules, inOrder}
 use Rattle.options.specs.WriterClaims.{Has}
 use Rattle.theorems.proofs.View.{clash}
 use Rattle.writing_theorems.proofs.Written.{AllPlain}
@@ -134,6 +134,21 @@ sound-sheet t s rs e =
       short = k .short;
       in-kinds = k .in-kinds;
     }
+
+-- ---- the order of the records
+
+ordered-sound : (xs : List OrderRule) (rs ts : List Rec) → ordered xs rs ≡ sound ts → sound rs ≡ sound ts
+ordered-sound [] rs ts e = e
+ordered-sound (x ∷ xs) rs ts e = go (x .broken rs) (ordered-sound xs rs ts) e
+  where
+    go : (b : Bool) → (ordered xs rs ≡ sound ts → sound rs ≡ sound ts) → cond b (faulty (x .number) (placeOf (x .tag) rs)) (ordered xs rs) ≡ sound ts → sound rs ≡ sound ts
+    go true ih q = clash (cc)
+    go false ih q = ih q
+
+-- what is in order has the records that it had
+pub in-order-sound : (w : Sheet) (rs : List Rec) → inOrder w ≡ sound rs → w ≡ sound rs
+in-order-sound (faulty n p) rs e = clash (cc)
+in-order-sound (sound ts) rs e = ordered-sound orderRules ts rs e
 
 -- ---- a record of a sheet
 

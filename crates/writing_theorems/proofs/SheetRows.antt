@@ -17,7 +17,7 @@ use Rattle.options.specs.Sheet.{RecordAt, RecordBegins, first, after-record, Li
 use Rattle.options.specs.SheetRefusals.{RecordBeyond, SheetRow, row-12, row-10, row-13, row-7, row-8-9}
 use Rattle.options.specs.SheetWalk.{recordsFrom, AllShort, Sheet, sound, faulty, ruled, isBroken, brokenBy, breaksKind}
 use Rattle.options.specs.RuleClaims.{Reached, at-first, behind, nth-first, nth-next, RuleRow, cut-row, rule-row, CorrectSheet}
-use Rattle.options.specs.Writing.{writerRules, sheet, hasTag, threeBeforeOne, placeOf3}
+use Rattle.options.specs.Writing.{writerRules, sheet}
 use Rattle.options.specs.WriterClaims.{Has}
 use Rattle.options.specs.WritingClaims.{RecordIn}
 use Rattle.theorems.proofs.View.{clash}
@@ -31,7 +31,7 @@ from-begins {s} b (here e) = subst (λ (x : ℕ). RecordBegins s x) e b
 from-begins b (past o g) = from-begins (after-record b o) g
 
 module _ {s : List ℕ} {i : ℕ} where
-  from-none : {k : ℕ} → drop i s ≡ [] → From s k i → i ≡ k
+  pub from-none : {k : ℕ} → drop i s ≡ [] → From s k i → i ≡ k
   from-none e (here z) = z
   from-none e (past o g) = absurd (nothing (sym e ∙ o .reads))
 
@@ -172,93 +172,8 @@ pub judges : (t : Table) (s : List ℕ) → AllBytes s → Judges t s (sheet t s
 unfolding sheet
 judges t s all = judges-of t s all (ruled (writerRules t) [] (recordsFrom 0 0 s)) (ruled-correct (writerRules t) s all)
 
--- ---- tag 3 before tag 1
-
-small-body : (r : Rec) → length (r .body) ≤ 1024 → length (r .body) < 65536
+pub small-body : (r : Rec) → length (r .body) ≤ 1024 → length (r .body) < 65536
 small-body r h = omega arith
-
-module _ (s : List ℕ) where
-  tag-at : (c i : ℕ) (rs : List Rec) → AllShort rs → RecordBegins s i → drop i s ≡ recordBytes rs → hasTag c rs ≡ true → (j : ℕ) × (e : List ℕ) × (i ≤ j) × Listed s j c e
-  tag-at c i [] short b e h = clash (cc)
-  tag-at c i (r ∷ rs) short b e h =
-      go (eqb c (r .tag)) refl h (tag-at c (i + 3 + length (r .body)) rs (short .1) (after-record b (record-first s i r rs (small-body r (short .0)) e)) (records-next s i r rs e))
-    where
-      go : (x : Bool) → eqb c (r .tag) ≡ x → either x (hasTag c rs) ≡ true
-          → (hasTag c rs ≡ true → (j : ℕ) × (y : List ℕ) × (i + 3 + length (r .body) ≤ j) × Listed s j c y)
-          → (j : ℕ) × (y : List ℕ) × (i ≤ j) × Listed s j c y
-      go true q z ih =
-          (i, r .body, omega arith, record { begins = b; is-record = subst (λ (v : ℕ). RecordAt s i v (r .body)) (sym (eqb-true c (r .tag) q)) (record-first s i r rs (small-body r (short .0)) e) })
-      go false q z ih = let t = ih z in (t .0, t .1, omega (arith, t .2), t .3)
-
-  pub three-first : (i : ℕ) (rs : List Rec) → AllShort rs → RecordBegins s i → drop i s ≡ recordBytes rs → threeBeforeOne rs ≡ true
-      → (d e : List ℕ) × (j : ℕ) × Listed s (i + placeOf3 rs) 3 d × (i + placeOf3 rs < j) × Listed s j 1 e
-  three-first i [] short b e h = clash (cc)
-  three-first i (r ∷ rs) short b e h =
-      go (eqb (r .tag) 1) (eqb (r .tag) 3) refl refl h (three-first (i + 3 + length (r .body)) rs (short .1) (after-record b (record-first s i r rs (small-body r (short .0)) e)) (records-next s i r rs e))
-    where
-      on : ℕ
-      on = i + 3 + length (r .body)
-
-      go : (x y : Bool) → eqb (r .tag) 1 ≡ x → eqb (r .tag) 3 ≡ y → cond x false (cond y (hasTag 1 rs) (threeBeforeOne rs)) ≡ true
-          → (threeBeforeOne rs ≡ true → (d f : List ℕ) × (j : ℕ) × Listed s (i + 3 + length (r .body) + placeOf3 rs) 3 d × (i + 3 + length (r .body) + placeOf3 rs < j) × Listed s j 1 f)
-          → (d f : List ℕ) × (j : ℕ) × Listed s (i + cond y 0 (3 + length (r .body) + placeOf3 rs)) 3 d × (i + cond y 0 (3 + length (r .body) + placeOf3 rs) < j) × Listed s j 1 f
-      go true y p q z ih = clash (cc)
-      go false true p q z ih =
-          let t = tag-at 1 (i + 3 + length (r .body)) rs (short .1) (after-record b (record-first s i r rs (small-body r (short .0)) e)) (records-next s i r rs e) z in
-          let n : i + 0 ≡ i = omega arith in (
-            r .body,
-            t .1,
-            t .0,
-            rw n (record { begins = b; is-record = subst (λ (v : ℕ). RecordAt s i v (r .body)) (eqb-true (r .tag) 3 q) (record-first s i r rs (small-body r (short .0)) e) }),
-            omega (arith, t .2),
-            t .3,
-          )
-      go false false p q z ih =
-          let t = ih z in
-          let n : i + 3 + length (r .body) + placeOf3 rs ≡ i + (3 + length (r .body) + placeOf3 rs) = omega arith in
-          (t .0, t .1, t .2, subst (λ (v : ℕ). Listed s v 3 (t .0)) n (t .3), omega (arith, t .4), t .5)
-
-  has-tag : (c i j : ℕ) (f : List ℕ) (rs : List Rec) → AllShort rs → drop i s ≡ recordBytes rs → From s j i → RecordAt s j c f → hasTag c rs ≡ true
-  unfolding recordBytes
-  has-tag c i j f [] short e g o = absurd (nothing (sym e ∙ ap (λ (z : ℕ). drop z s) (from-none e g) ∙ o .reads))
-  has-tag c i j f (r ∷ rs) short e g o =
-      ⊎-elim (λ (z : i ≡ j). rw (eq-eqb c (r .tag) (record-same (subst (λ (v : ℕ). RecordAt s v c f) (sym z) o) (record-first s i r rs (small-body r (short .0)) e) .0)))
-      (λ (h : From s j (i + 3 + length (r .body))). later (eqb c (r .tag)) (has-tag c (i + 3 + length (r .body)) j f rs (short .1) (records-next s i r rs e) h o))
-      (from-record (record-first s i r rs (small-body r (short .0)) e) g)
-    where
-      later : (x : Bool) → hasTag c rs ≡ true → either x (hasTag c rs) ≡ true
-      later true q = refl
-      later false q = q
-
-  module _ (once : (i j c : ℕ) (d e : List ℕ) → Listed s i c d → Listed s j c e → i < j → ⊥) where
-    none-from : (i k j : ℕ) (d f : List ℕ) (rs : List Rec) → AllShort rs → RecordBegins s i → drop i s ≡ recordBytes rs → threeBeforeOne rs ≡ false
-        → From s k i → RecordAt s k 3 d → From s j i → RecordAt s j 1 f → k < j → ⊥
-    none-from i k j d f [] short b e h gk ok gj oj l = clash (let z : hasTag 1 [] ≡ true = has-tag 1 i j f [] short e gj oj in cc)
-    none-from i k j d f (r ∷ rs) short b e h gk ok gj oj l =
-        go (eqb (r .tag) 1) (eqb (r .tag) 3) refl refl h (from-record o gk) (from-record o gj)
-        (λ y hk hj. none-from (i + 3 + length (r .body)) k j d f rs (short .1) (after-record b o) (records-next s i r rs e) y hk ok hj oj l)
-      where
-        o : RecordAt s i (r .tag) (r .body)
-        o = record-first s i r rs (small-body r (short .0)) e
-
-        tag-is : (k c : ℕ) (y : List ℕ) → i ≡ k → RecordAt s k c y → r .tag ≡ c
-        tag-is k c y z q = sym (record-same (subst (λ (v : ℕ). RecordAt s v c y) (sym z) q) o .0)
-
-        go : (x y : Bool) → eqb (r .tag) 1 ≡ x → eqb (r .tag) 3 ≡ y → cond x false (cond y (hasTag 1 rs) (threeBeforeOne rs)) ≡ false
-            → (i ≡ k) ⊎ From s k (i + 3 + length (r .body)) → (i ≡ j) ⊎ From s j (i + 3 + length (r .body))
-            → (threeBeforeOne rs ≡ false → From s k (i + 3 + length (r .body)) → From s j (i + 3 + length (r .body)) → ⊥) → ⊥
-        go true y p q z ck (inl cj) ih = omega (arith, from-le gk)
-        go true y p q z ck (inr cj) ih =
-            once i j 1 (r .body) f (record { begins = b; is-record = subst (λ (v : ℕ). RecordAt s i v (r .body)) (eqb-true (r .tag) 1 p) o })
-            (record { begins = from-begins b gj; is-record = oj }) (omega (arith, from-le cj))
-        go false true p q z ck (inl cj) ih = eqb-false (r .tag) 1 p (tag-is j 1 f cj oj)
-        go false true p q z ck (inr cj) ih = clash (let w : hasTag 1 rs ≡ true = has-tag 1 (i + 3 + length (r .body)) j f rs (short .1) (records-next s i r rs e) cj oj in cc)
-        go false false p q z (inl ck) cj ih = eqb-false (r .tag) 3 q (tag-is k 3 d ck ok)
-        go false false p q z (inr ck) (inl cj) ih = eqb-false (r .tag) 1 p (tag-is j 1 f cj oj)
-        go false false p q z (inr ck) (inr cj) ih = ih z ck cj
-
-    pub three-later : (k j : ℕ) (d f : List ℕ) (rs : List Rec) → AllShort rs → s ≡ recordBytes rs → threeBeforeOne rs ≡ false → Listed s k 3 d → k < j → Listed s j 1 f → ⊥
-    three-later k j d f rs short e h a l b = none-from 0 k j d f rs short first e h (begins-from (a .begins)) (a .is-record) (begins-from (b .begins)) (b .is-record) l
 
 -- ---- the records of a sheet are those that it lists
 

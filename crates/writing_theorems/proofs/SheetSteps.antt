@@ -149,7 +149,7 @@ module _ (s : List ℕ) (at : ℕ) (w : Whole s at) (l : at < length s) where
   next-left = next-by (at-place s at) refl
 
 -- a walk that meets no cut record goes to the sheet's end
-read-to-end : {s : List ℕ} {i : ℕ} {w : Walk} → Reads s i w → Uncut w → i ≤ length s → i + length (recordBytes (recordsOf w)) ≡ length s
+pub read-to-end : {s : List ℕ} {i : ℕ} {w : Walk} → Reads s i w → Uncut w → i ≤ length s → i + length (recordBytes (recordsOf w)) ≡ length s
 unfolding recordsOf recordBytes
 read-to-end {s} {i} (r-none e) u l = let z : length (drop i s) ≡ 0 = ap length e in omega (arith, z, length-drop i s)
 read-to-end (r-cut x) u l = absurd u

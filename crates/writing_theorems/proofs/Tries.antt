@@ -10,7 +10,7 @@ use lib.Dec.{ltb, leb, eqb}
 use borrow.Author.Tests.{ltb-true, lt-ltb, leb-true, eqb-true, eqb-false}
 use Rattle.options.specs.Message.{Rec}
 use Rattle.options.specs.SheetWalk.{Sheet, sound, faulty}
-use Rattle.options.specs.Writing.{size, fits, isNil, pastOptions, pastFile, pastSname, planFits, splitAll, sheet, threeBeforeOne, placeOf3, Wrote, wrote, declined, written, permittedPlans, plans, tryPlans, afterSheet, writer}
+use Rattle.options.specs.Writing.{size, fits, isNil, pastOptions, pastFile, pastSname, planFits, splitAll, sheet, inOrder, Wrote, wrote, declined, written, permittedPlans, plans, tryPlans, afterSheet, writer}
 use Rattle.options.specs.WriterClaims.{Has, Permitted, plan-0, plan-1, plan-2, any-plan, Rising, Writes, FileForSname, PlanTwoNeverFirst, PlanTwoNeedless, TriesRight}
 use Rattle.theorems.proofs.View.{clash}
 use Rattle.writing_theorems.proofs.Demand.{both}
@@ -78,12 +78,12 @@ same-tries k m ps = go (eqb k 0) (eqb k 1) (eqb k 2)
 
 same-after : (k : ℕ) (m : List ℕ) (x : Sheet) → afterSheet m (permittedPlans k) x ≡ afterSheet m (plans k) x
 same-after k m (faulty n p) = refl
-same-after k m (sound rs) = ap (λ (w : Wrote). cond (threeBeforeOne rs) (declined 14 (placeOf3 rs)) w) (same-tries k m (splitAll rs))
+same-after k m (sound rs) = same-tries k m (splitAll rs)
 
 pub plan-two-needless : PlanTwoNeedless
 unfolding writer
 plan-two-needless t s m k =
-    ap (λ (w : Wrote). cond (ltb (length m) 240) (declined 1 (length m)) (cond (ltb 1472 (length m)) (declined 2 (length m)) (cond (ltb 3 k) (declined 15 0) (cond (ltb 4096 (length s)) (declined 16 (length s)) w)))) (same-after k m (sheet t s))
+    ap (λ (w : Wrote). cond (ltb (length m) 240) (declined 1 (length m)) (cond (ltb 1472 (length m)) (declined 2 (length m)) (cond (ltb 3 k) (declined 15 0) (cond (ltb 4096 (length s)) (declined 16 (length s)) w)))) (same-after k m (inOrder (sheet t s)))
 
 -- ---- The lists: what is permitted, and what is tried
 

@@ -14,11 +14,12 @@ use Rattle.options.specs.Kinds.{Table}
 use Rattle.options.specs.KindClaims.{AllBytes}
 use Rattle.options.specs.Sheet.{first}
 use Rattle.options.specs.SheetWalk.{Sheet, sound, faulty}
-use Rattle.options.specs.Writing.{splitAll, sheet, planFits, wrote, declined, threeBeforeOne, placeOf3, written, tryPlans, afterSheet, writerTrying}
-use Rattle.options.specs.WriterClaims.{Has, SheetPieces, Holding, WriteRow, write-1, write-2, write-15, write-16, write-record, write-14, TriedOnly, FirstHolding, this-one, a-later, TriedInOrder}
+use Rattle.options.specs.Writing.{splitAll, sheet, planFits, wrote, declined, inOrder, written, tryPlans, afterSheet, writerTrying}
+use Rattle.options.specs.WriterClaims.{Has, SheetPieces, Holding, WriteRow, write-1, write-2, write-15, write-16, write-record, write-order, TriedOnly, FirstHolding, this-one, a-later, TriedInOrder}
 use Rattle.theorems.proofs.View.{clash}
-use Rattle.writing_theorems.proofs.SheetLaws.{sound-sheet}
-use Rattle.writing_theorems.proofs.SheetRows.{Judges, judges, three-first}
+use Rattle.writing_theorems.proofs.SheetLaws.{sound-sheet, in-order-sound}
+use Rattle.writing_theorems.proofs.SheetRows.{Judges, judges}
+use Rattle.writing_theorems.proofs.SheetOrder.{InOrder, in-order}
 use Rattle.writing_theorems.proofs.Demand.{passed}
 use Rattle.writing_theorems.proofs.Plans.{holding, fitting, fits-of}
 use Rattle.writing_theorems.proofs.Writer.{Chosen, chosen, among-chosen, piecesOf, same-pieces}
@@ -35,11 +36,11 @@ reached tries t s m k plan w e =
     let p2 : (ltb 1472 (length m) ≡ false) × _ = passed (ltb 1472 (length m)) 2 (length m) _ plan w (p1 .1) in
     let p3 : (ltb 3 k ≡ false) × _ = passed (ltb 3 k) 15 0 _ plan w (p2 .1) in
     let p4 : (ltb 4096 (length s) ≡ false) × _ = passed (ltb 4096 (length s)) 16 (length s) _ plan w (p3 .1) in
-    go (sheet t s) refl (p4 .1)
+    go (inOrder (sheet t s)) refl (p4 .1)
   where
-    go : (x : Sheet) → sheet t s ≡ x → afterSheet m (tries k) x ≡ wrote plan w → Reached (tries k) t s m plan w
+    go : (x : Sheet) → inOrder (sheet t s) ≡ x → afterSheet m (tries k) x ≡ wrote plan w → Reached (tries k) t s m plan w
     go (faulty n p) i y = clash (cc)
-    go (sound rs) i y = record { records = rs; is-sound = i; tried = passed (threeBeforeOne rs) 14 (placeOf3 rs) _ plan w y .1 }
+    go (sound rs) i y = record { records = rs; is-sound = in-order-sound (sheet t s) rs i; tried = y }
 
 pub tried-only : TriedOnly
 tried-only tries t s m k plan w e =
@@ -75,25 +76,22 @@ module _ (tries : ℕ → List ℕ) (t : Table) (s m : List ℕ) (k : ℕ) (all 
   Gets plan = (w : List ℕ) × (writerTrying tries t s m k ≡ wrote plan w)
 
   after-sheet : (plan : ℕ) → FirstHolding (length m - 240) (x .pieces) (tries k) plan → (y : Sheet) → sheet t s ≡ y → Judges t s y
-      → (w : List ℕ) × (afterSheet m (tries k) y ≡ wrote plan w)
+      → (w : List ℕ) × (afterSheet m (tries k) (inOrder y) ≡ wrote plan w)
   after-sheet plan f (faulty n p) e j = absurd (let z = only n p _ (write-record (j .applies)) in omega (arith, z))
-  after-sheet plan f (sound rs) e j = go (threeBeforeOne rs) refl
+  after-sheet plan f (sound rs) e j = let l = sound-sheet t s rs e in go (inOrder (sound rs)) refl (in-order t s rs (l .short) (l .back all) j)
     where
-      go : (b : Bool) → threeBeforeOne rs ≡ b → (w : List ℕ) × (cond b (declined 14 (placeOf3 rs)) (tryPlans (tries k) m (splitAll rs)) ≡ wrote plan w)
-      go true q =
-          let l = sound-sheet t s rs e in
-          let r = three-first s 0 rs (l .short) first (l .back all) q in
-          absurd (let z = only 14 _ _ (write-14 (r .3) (r .4) (r .5)) in omega (arith, z))
-      go false q =
-          let same : x .pieces ≡ splitAll rs = same-pieces s x (piecesOf s rs (sound-sheet t s rs e .back all)) in
-          (_, used-first m (splitAll rs) (tries k) plan (subst (λ (l : List Rec). FirstHolding (length m - 240) l (tries k) plan) same f))
+      go : (y : Sheet) → inOrder (sound rs) ≡ y → InOrder s y → (w : List ℕ) × (afterSheet m (tries k) y ≡ wrote plan w)
+      go (faulty n p) q o = absurd (let z = only n p _ (write-order (o .applies)) in omega (arith, z))
+      go (sound ts) q o =
+          let same : x .pieces ≡ splitAll ts = same-pieces s x (piecesOf s ts (sound-sheet t s ts (e ∙ in-order-sound (sound rs) ts q) .back all)) in
+          (_, used-first m (splitAll ts) (tries k) plan (subst (λ (l : List Rec). FirstHolding (length m - 240) l (tries k) plan) same f))
 
   gets : (plan : ℕ) → FirstHolding (length m - 240) (x .pieces) (tries k) plan → Gets plan
   gets plan f = go (ltb (length m) 240) (ltb 1472 (length m)) (ltb 3 k) (ltb 4096 (length s)) refl refl refl refl
     where
       go : (a b c d : Bool) → ltb (length m) 240 ≡ a → ltb 1472 (length m) ≡ b → ltb 3 k ≡ c → ltb 4096 (length s) ≡ d
           → (w : List ℕ)
-          × (cond a (declined 1 (length m)) (cond b (declined 2 (length m)) (cond c (declined 15 0) (cond d (declined 16 (length s)) (afterSheet m (tries k) (sheet t s))))) ≡ wrote plan w)
+          × (cond a (declined 1 (length m)) (cond b (declined 2 (length m)) (cond c (declined 15 0) (cond d (declined 16 (length s)) (afterSheet m (tries k) (inOrder (sheet t s)))))) ≡ wrote plan w)
       go true b c d ea eb ec ed = absurd (let z = only _ _ _ (write-1 (ltb-true _ _ ea)) in omega (arith, z))
       go false true c d ea eb ec ed = absurd (let z = only _ _ _ (write-2 (ltb-true _ _ eb)) in omega (arith, z))
       go false false true d ea eb ec ed = absurd (let z = only _ _ _ (write-15 (ltb-true _ _ ec)) in omega (arith, z))

@@ -538,6 +538,10 @@ const VARIANTS: &[Variant] = &[
          Ok(Lookup::Found(_, None, Content::Broken(_))) if kinds::kind_of(code) == Some(Kind::Text) => data(message, code),\n",
     ),
     variant!("77 is a list", "kinds.rs", "69..=76", "69..=77"),
+    variant!("8 keeps its row", "kinds.rs", "3..=7 | 9", "3..=7 | 8 | 9"),
+    variant!("10 keeps its row", "kinds.rs", "9 | 11", "9 | 10 | 11"),
+    variant!("34 keeps its row", "kinds.rs", "31 | 36", "31 | 34 | 36"),
+    variant!("9 is retired", "kinds.rs", "3..=7 | 9", "3..=7"),
     variant!("63 is opaque", "kinds.rs", "60 | 61 => Some(Kind::Opaque)", "60 | 61 | 63 => Some(Kind::Opaque)"),
     variant!("62 has a row", "kinds.rs", "64 | 66 | 67 => Some(Kind::Text)", "62 | 64 | 66 | 67 => Some(Kind::Text)"),
     // Writing: the checks.
@@ -616,7 +620,7 @@ const VARIANTS: &[Variant] = &[
         "1 => tag_3_before_1 = tag_3,",
         "1 if tag_3.is_some() => return refuse(14, tag_3.unwrap()),",
     ),
-    variant!("14 without tag 1", "writing.rs", "match tag_3_before_1 {", "match tag_3_before_1.or(tag_3) {"),
+    variant!("14 without tag 1", "writing.rs", "= tag_3_before_1 {", "= tag_3_before_1.or(tag_3) {"),
     variant!(
         "14 at tag 1",
         "writing.rs",

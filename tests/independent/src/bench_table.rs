@@ -362,6 +362,28 @@ fn texts() {
     assert_eq!(lookup(&m, 60), found(Content::Part(Kind::Opaque, 3), Field::Options, 0, 242));
 }
 
+/// Request 10: "in a message they read as unknown with their bytes; in a sheet
+/// they are written unjudged and come back."
+#[test]
+fn retired_rows() {
+    for code in [8, 10, 34] {
+        for data in ["", "02", "01 02 03", "01 02 03 04"] {
+            let length = hex(data).len();
+            let m = message(&format!("{code:02X} {length:02X} {data} FF"));
+            assert_eq!(lookup(&m, code), found(Content::Unknown(length), Field::Options, 0, 242));
+            let sheet = [&[code, 0, length as u8], &hex(data)[..]].concat();
+            let mut written = m.clone();
+            assert_eq!(writing::write(&sheet, &mut written, 0), Ok(0));
+            assert_eq!(written, m);
+            let mut back = vec![9; sheet.len()];
+            assert_eq!(reading::records(&written, &mut back), Ok(sheet.len()));
+            assert_eq!(back, sheet);
+        }
+    }
+    let m = message("09 03 01 02 03 FF");
+    assert_eq!(lookup(&m, 9), found(broken(8, 240), Field::Options, 0, 242));
+}
+
 /// An index that has one entry.
 fn one_entry(code: u8, entry: u16) -> [u16; 256] {
     let mut numbers = [0; 256];

@@ -1,8 +1,10 @@
 //! The C structures, and the implementation exported with the library's C
 //! signatures, so that single calls of it can be counted.
 
-use crate::rules::answers::{Codes, Content, Lookup, Origin, Part, Refusal, RollCall, Several};
-use crate::rules::{groups, index, reading, vendor, writing};
+use crate::rules::answers::{
+    Codes, Content, Listed, Lookup, Origin, Part, Refusal, RollCall, Several, EMPTY,
+};
+use crate::rules::{groups, index, reading, relay, vendor, writing};
 use std::slice;
 
 /// status: 0 absent, 1 unknown, 2 refused, 3 a number, 4 a part, 5 broken.
@@ -70,6 +72,34 @@ pub struct Wrote {
     pub refusal: u32,
     pub plan: u32,
     pub place: usize,
+}
+
+/// What a reader of sub-options answers. An id that is absent has start 0: the data
+/// of a sub-option never stand before 2.
+#[repr(C)]
+#[derive(Clone, Copy, PartialEq, Eq, Debug, Default)]
+pub struct Relay {
+    pub refusal: u32,
+    pub size: usize,
+    pub place: usize,
+    pub circuit: Extent,
+    pub remote: Extent,
+}
+
+impl From<Result<Listed, Refusal>> for Relay {
+    fn from(result: Result<Listed, Refusal>) -> Relay {
+        let named = |id: Option<Part>| id.unwrap_or(EMPTY).into();
+        match result {
+            Ok(listed) => Relay {
+                refusal: 0,
+                size: listed.size,
+                place: 0,
+                circuit: named(listed.circuit),
+                remote: named(listed.remote),
+            },
+            Err(r) => Relay { refusal: r.number, place: r.place, ..Relay::default() },
+        }
+    }
 }
 
 impl From<Result<Lookup, Refusal>> for Answer {
@@ -332,6 +362,32 @@ pub unsafe extern "C" fn independent_vendor_write(
     room: usize,
 ) -> Filled {
     vendor::write(lent(sheet, n), lent_mut(out, room)).into()
+}
+
+/// # Safety
+/// `bytes` points to `n` readable bytes, `out` to `room` bytes lent to this
+/// call alone.
+#[no_mangle]
+pub unsafe extern "C" fn independent_relay_records(
+    bytes: *const u8,
+    n: usize,
+    out: *mut u8,
+    room: usize,
+) -> Relay {
+    relay::records(lent(bytes, n), lent_mut(out, room)).into()
+}
+
+/// # Safety
+/// `sheet` points to `n` readable bytes, `out` to `room` bytes lent to this
+/// call alone.
+#[no_mangle]
+pub unsafe extern "C" fn independent_relay_write(
+    sheet: *const u8,
+    n: usize,
+    out: *mut u8,
+    room: usize,
+) -> Filled {
+    relay::write(lent(sheet, n), lent_mut(out, room)).into()
 }
 
 /// # Safety

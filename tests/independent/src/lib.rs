@@ -1,4 +1,4 @@
-//! Document 01, with requests 01 to 05, 07 and 08 of document 02, written from their text
+//! Document 01, with requests 01 to 05 and 07 to 09 of document 02, written from their text
 //! alone, in plain Rust.
 //!
 //! `rules` is the implementation and has no unsafe code. `boundary` has the
@@ -9,3 +9,5 @@ pub mod rules;
 
 #[cfg(test)]
 mod bench_table;
+#[cfg(test)]
+mod relay_table;

@@ -8,7 +8,7 @@ use std::time::Instant;
 use tester::compare::Run;
 use tester::library::library;
 use tester::sides::independent_rules;
-use tester::{broken, captures, edges};
+use tester::{broken, captures, edges, lines};
 
 const SHORT_SEEDS: [u64; 4] = [1, 2, 3, 4];
 const SHORT_CASES: u64 = 525_000;
@@ -16,6 +16,7 @@ const LONG_FIRST_SEED: u64 = 1001;
 const LONG_CASES: u64 = 1_000_000;
 const PIECES_FIRST_SEED: u64 = 2001;
 const GROUPED_FIRST_SEED: u64 = 3001;
+const RELAYED_FIRST_SEED: u64 = 4001;
 
 const USAGE: &str = "\
 usage: independent [MODE]
@@ -23,6 +24,8 @@ usage: independent [MODE]
   long N           N million messages and sheets of other seeds
   pieces N         N million messages, each with an option in pieces over two fields or three
   grouped N        N million grouped files, each with a class, and as many old sheets
+  relay N          N million option 82s and as many sheets of sub-options
+  lines SEED N     N generated cases of request 09 with this package's answers
   captures [DIR]   the files *.bin of a folder (../vectors/captures)
   broken           wrong variants and wrong subjects, each of which has to be detected
   case SEED INDEX  one generated case";
@@ -35,6 +38,11 @@ fn main() {
         ["long", n] => n.parse().map_or_else(|_| usage(), long),
         ["pieces", n] => n.parse().map_or_else(|_| usage(), pieces),
         ["grouped", n] => n.parse().map_or_else(|_| usage(), grouped),
+        ["relay", n] => n.parse().map_or_else(|_| usage(), relayed),
+        ["lines", seed, n] => match (seed.parse(), n.parse()) {
+            (Ok(seed), Ok(n)) => printed(seed, n),
+            _ => usage(),
+        },
         ["captures"] => captured(Path::new("../vectors/captures")),
         ["captures", folder] => captured(Path::new(folder)),
         ["broken"] => broken::run(),
@@ -117,6 +125,28 @@ fn grouped(millions: u64) -> i32 {
     println!("{:.1} seconds", start.elapsed().as_secs_f64());
     println!("{} million files, {} differences", millions, run.differences);
     i32::from(run.differences > 0)
+}
+
+fn relayed(millions: u64) -> i32 {
+    let mut run = new_run();
+    let start = Instant::now();
+    for seed in RELAYED_FIRST_SEED..RELAYED_FIRST_SEED + millions {
+        println!("seed {seed}, cases 0 to {}", LONG_CASES - 1);
+        for index in 0..LONG_CASES {
+            run.relayed(seed, index);
+            if run.over() {
+                break;
+            }
+        }
+    }
+    println!("{:.1} seconds", start.elapsed().as_secs_f64());
+    run.counts.print_relay();
+    end(&run)
+}
+
+fn printed(seed: u64, cases: u64) -> i32 {
+    lines::print(seed, cases);
+    0
 }
 
 fn cases(run: &mut Run, seeds: impl IntoIterator<Item = u64>, count: u64) {

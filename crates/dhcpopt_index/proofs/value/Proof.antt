@@ -80,6 +80,9 @@ of-part-requires-4 c κs = search needs
 of-part-requires-5 : tie.Need-of-part-requires-5
 of-part-requires-5 c κs = search needs
 
+of-part-requires-6 : tie.Need-of-part-requires-6
+of-part-requires-6 c κs = search needs
+
 returns : tie.Need-returns
 unfolding valueOf meaning
 returns c = rw (c .before .before .match .keys1, ← c .before .first32 .ensures) (c .unsigned .ensures)
@@ -128,7 +131,11 @@ returns-10 c = rw (c .before .before .match .keys10, ← c .before .text-len .en
 
 returns-11 : tie.Need-returns-11
 unfolding valueOf meaning
-returns-11 c = rw (else-opaque (c .before .before .before .args .k) (c .before .match .rest)) (c .of-part5 .ensures)
+returns-11 c = rw (c .before .match .keys11) (c .of-part5 .ensures)
+
+returns-12 : tie.Need-returns-12
+unfolding valueOf meaning
+returns-12 c = rw (else-opaque (c .before .before .before .args .k) (c .before .match .rest .0) (c .before .match .rest .1)) (c .of-part6 .ensures)
 
 pub value-spec : {M : Type 1} → statement M
 value-spec =
@@ -157,6 +164,7 @@ value-spec =
     text-len-requires
     of-part-requires-4
     of-part-requires-5
+    of-part-requires-6
     returns
     returns-2
     returns-3
@@ -167,4 +175,5 @@ value-spec =
     returns-8
     returns-9
     returns-10
-    returns-11)
+    returns-11
+    returns-12)

@@ -1,17 +1,22 @@
 -- `dhcpopt_index::value_fault` meets its contract: one of the rule's two parts. Assumes nothing.
 use borrow.Author.Needs.{needs}
+use borrow.Author.Tests.{ne-eqb}
 use mathlib.Core.Path.{sym, _∙_}
+use Prim.Native.Nat.{_%_}
 use Rattle.dhcpopt_index.proofs.value_fault.Statement.{statement}
 use Rattle.dhcpopt_index.proofs.value_fault.Tie as tie
 
 is-list-requires : tie.Need-is-list-requires
 is-list-requires c κs = search needs
 
-list-fault-requires : tie.Need-list-fault-requires
-list-fault-requires c κs = search needs
+short-list-fault-requires : tie.Need-short-list-fault-requires
+short-list-fault-requires c κs = search needs
 
 returns : tie.Need-returns
-returns c = let e = c .before in rw (sym (e .before .is-list .ensures) ∙ e .if1 .taken) at (c .list-fault .ensures)
+returns c =
+    let e = c .before in
+    let s = e .before .before .before in
+    rw (ne-eqb (s .args .row % 16) 12 (s .pre), sym (e .before .is-list .ensures) ∙ e .if1 .taken) at (c .short-list-fault .ensures)
 
 number-fault-requires : tie.Need-number-fault-requires
 number-fault-requires c κs = search needs
@@ -20,4 +25,4 @@ returns-2 : tie.Need-returns-2
 returns-2 c = let e = c .before in rw (sym (e .before .is-list .ensures) ∙ e .if1 .left) at (c .number-fault .ensures)
 
 pub value-fault-spec : {M : Type 1} → statement M
-value-fault-spec = tie.close (tie.spec is-list-requires list-fault-requires returns number-fault-requires returns-2)
+value-fault-spec = tie.close (tie.spec is-list-requires short-list-fault-requires returns number-fault-requires returns-2)

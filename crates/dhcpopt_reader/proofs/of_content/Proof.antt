@@ -115,6 +115,12 @@ enum-known-x-13 c = search needs
 of-part-requires-6 : tie.Need-of-part-requires-6
 of-part-requires-6 c κs = search needs
 
+enum-known-x-14 : tie.Need-enum-known-x-14
+enum-known-x-14 c = search needs
+
+of-part-requires-7 : tie.Need-of-part-requires-7
+of-part-requires-7 c κs = search needs
+
 returns : tie.Need-returns
 returns c = c .of-part .ensures ∙ plain-of (c .before .before .x .given .1)
 
@@ -167,6 +173,9 @@ returns-12 c = c .of-part5 .ensures ∙ plain-of (c .before .before .x12 .given 
 returns-13 : tie.Need-returns-13
 returns-13 c = c .of-part6 .ensures ∙ plain-of (c .before .before .x13 .given .1)
 
+returns-14 : tie.Need-returns-14
+returns-14 c = c .of-part7 .ensures ∙ plain-of (c .before .before .x14 .given .1)
+
 pub of-content-spec : {M : Type 1} → statement M
 of-content-spec =
     tie.close
@@ -205,6 +214,8 @@ of-content-spec =
     of-part-requires-5
     enum-known-x-13
     of-part-requires-6
+    enum-known-x-14
+    of-part-requires-7
     returns
     returns-2
     returns-3
@@ -217,4 +228,5 @@ of-content-spec =
     returns-10
     returns-11
     returns-12
-    returns-13)
+    returns-13
+    returns-14)

@@ -4,7 +4,7 @@ use mathlib.Core.Path.{sym}
 use Prim.Native.Nat.{_%_}
 use mir.Syntax.{Arms}
 use Rattle.kinds.proofs.Entries.{armsOf, unlisted}
-use Rattle.kinds.proofs.ByKind.{list-3, list-7, list-10, listless, no-list}
+use Rattle.kinds.proofs.ByKind.{list-3, list-7, list-10, list-12, listless, no-list}
 use Rattle.kinds.proofs.is_list.Statement.{statement}
 use Rattle.kinds.proofs.is_list.Tie as tie
 use Rattle.kinds.proofs.is_list.Lts as lts
@@ -23,7 +23,10 @@ returns-3 : tie.Need-returns-3
 returns-3 c = sym (list-10 _ (omega arith) (c .match .keys3))
 
 returns-4 : tie.Need-returns-4
-returns-4 c =
+returns-4 c = sym (list-12 _ (omega arith) (c .match .keys4))
+
+returns-5 : tie.Need-returns-5
+returns-5 c =
     let n = c .before .args .row in
     sym (no-list n (omega arith) (unlisted listless arms (n % 16) tt (omega arith) (c .match .rest)))
 
@@ -34,4 +37,5 @@ is-list-spec =
     returns
     returns-2
     returns-3
-    returns-4)
+    returns-4
+    returns-5)

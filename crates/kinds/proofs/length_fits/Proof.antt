@@ -6,7 +6,7 @@ use Prim.Native.Nat.{_%_}
 use mir.Syntax.{Arms}
 use Rattle.kinds.specs.Numbers.{rowAt}
 use Rattle.kinds.proofs.Entries.{armsOf, unlisted}
-use Rattle.kinds.proofs.ByKind.{length-1, length-2, length-3, length-4, length-5, length-6, length-7, length-8, length-9, length-10, length-11, kindless, no-length}
+use Rattle.kinds.proofs.ByKind.{length-1, length-2, length-3, length-4, length-5, length-6, length-7, length-8, length-9, length-10, length-11, length-12, kindless, no-length}
 use Rattle.kinds.proofs.length_fits.Statement.{statement}
 use Rattle.kinds.proofs.length_fits.Tie as tie
 use Rattle.kinds.proofs.length_fits.Lts as lts
@@ -44,6 +44,9 @@ returns-2 c = rw (c .before .if2 .taken) (c .stepped6 .ensures)
 stepped-requires-7 : tie.Need-stepped-requires-7
 stepped-requires-7 c κs = search needs
 
+stepped-requires-8 : tie.Need-stepped-requires-8
+stepped-requires-8 c κs = search needs
+
 returns-3 : tie.Need-returns-3
 returns-3 c = rw (length-1 _ (omega arith) (c .match .keys1))
 
@@ -78,7 +81,10 @@ returns-13 : tie.Need-returns-13
 returns-13 c = rw (length-11 _ (omega arith) (c .before .before .match .keys11) (rw (ne-eqb _ _ (c .before .if2 .left)))) (c .stepped7 .ensures)
 
 returns-14 : tie.Need-returns-14
-returns-14 c =
+returns-14 c = rw (length-12 _ (omega arith) (c .before .match .keys12)) (c .stepped8 .ensures)
+
+returns-15 : tie.Need-returns-15
+returns-15 c =
     let n = c .before .args .row in
     rw (no-length n (omega arith) (unlisted kindless arms (n % 16) tt (omega arith) (c .match .rest)))
 
@@ -95,6 +101,7 @@ length-fits-spec =
     stepped-requires-6
     returns-2
     stepped-requires-7
+    stepped-requires-8
     returns-3
     returns-4
     returns-5
@@ -106,4 +113,5 @@ length-fits-spec =
     returns-11
     returns-12
     returns-13
-    returns-14)
+    returns-14
+    returns-15)

@@ -1,81 +1,24 @@
--- `kinds::list_fault` meets its contract, arm by arm. Assumes nothing.
+-- `kinds::list_fault` meets its contract. Assumes nothing.
 use borrow.Author.Needs.{needs}
 use borrow.Author.Tests.{ne-eqb}
 use native.Mathlib.Omega.{arith}
-use mathlib.Core.Path.{_≡_}
-use Prim.Native.Nat.{_%_}
-use mir.Syntax.{Arms}
 use Rattle.options.specs.Kinds.{valueFault}
-use Rattle.kinds.specs.Numbers.{rowAt}
-use Rattle.kinds.proofs.Entries.{armsOf, unlisted}
-use Rattle.kinds.proofs.ByKind.{list-3, list-7, list-10, value-7, value-10, listless, no-list}
+use Rattle.kinds.proofs.ByKind.{list-12, value-12}
 use Rattle.kinds.proofs.list_fault.Statement.{statement}
 use Rattle.kinds.proofs.list_fault.Tie as tie
-use Rattle.kinds.proofs.list_fault.Lts as lts
 
--- as the code has them
-abbrev arms : Arms
-arms = armsOf lts.body
-
-destinations-fit-requires : tie.Need-destinations-fit-requires
-destinations-fit-requires c κs = search needs
-
-or-nine-requires : tie.Need-or-nine-requires
-or-nine-requires c κs = search needs
+suboptions-fault-requires : tie.Need-suboptions-fault-requires
+suboptions-fault-requires c κs = search needs
 
 returns : tie.Need-returns
-unfolding rowAt valueFault
-returns c =
-    let t = c .before .before in
-    let e : t .before .before .before .args .row ≡ 19 = omega (arith, t .if1 .taken) in
-    rw (e, ← c .before .destinations-fit .ensures) (c .or-nine .ensures)
+unfolding valueFault
+returns c = let k = c .before .if1 .taken in rw (list-12 _ (omega arith) k, value-12 _ (omega arith) k) (c .suboptions-fault .ensures)
 
-never-falling-requires : tie.Need-never-falling-requires
-never-falling-requires c κs = search needs
-
-or-nine-requires-2 : tie.Need-or-nine-requires-2
-or-nine-requires-2 c κs = search needs
-
-text-fits-requires : tie.Need-text-fits-requires
-text-fits-requires c κs = search needs
-
-or-nine-requires-3 : tie.Need-or-nine-requires-3
-or-nine-requires-3 c κs = search needs
+short-list-fault-requires : tie.Need-short-list-fault-requires
+short-list-fault-requires c κs = search needs
 
 returns-2 : tie.Need-returns-2
-returns-2 c =
-    let n = c .before .before .before .args .row in
-    rw (list-3 n (omega arith) (c .before .match .keys1), ne-eqb n 19 (λ e. omega (arith, c .if1 .left, c .before .match .keys1, e)))
-
-returns-3 : tie.Need-returns-3
-unfolding valueFault
-returns-3 c =
-    let k = c .before .before .match .keys2 in
-    rw (list-7 _ (omega arith) k, value-7 _ (omega arith) k, ← c .before .never-falling .ensures) (c .or-nine2 .ensures)
-
-returns-4 : tie.Need-returns-4
-unfolding valueFault
-returns-4 c =
-    let k = c .before .before .match .keys3 in
-    rw (list-10 _ (omega arith) k, value-10 _ (omega arith) k, ← c .before .text-fits .ensures) (c .or-nine3 .ensures)
-
-returns-5 : tie.Need-returns-5
-returns-5 c =
-    let n = c .before .before .args .row in
-    rw (no-list n (omega arith) (unlisted listless arms (n % 16) tt (omega arith) (c .match .rest)))
+returns-2 c = rw (ne-eqb _ 12 (c .before .if1 .left)) at (c .short-list-fault .ensures)
 
 pub list-fault-spec : {M : Type 1} → statement M
-list-fault-spec =
-    tie.close
-    (tie.spec
-    destinations-fit-requires
-    or-nine-requires
-    returns
-    never-falling-requires
-    or-nine-requires-2
-    text-fits-requires
-    or-nine-requires-3
-    returns-2
-    returns-3
-    returns-4
-    returns-5)
+list-fault-spec = tie.close (tie.spec suboptions-fault-requires returns short-list-fault-requires returns-2)

@@ -1,4 +1,4 @@
--- `list_options::main` is safe and ends: the listing lies within its buffer, by what `listing::list` ensures. Assumes nothing.
+-- `list_options::main` is safe and ends: the listing lies within its buffer, by what `listed` ensures. Assumes nothing.
 use borrow.Author.Needs.{needs}
 use mathlib.Core.Path.{sym, ap}
 use native.Mathlib.Omega.{arith}
@@ -13,20 +13,14 @@ slice-aggregate-read-full c = search needs
 read-full-requires : tie.Need-read-full-requires
 read-full-requires c κs = search needs
 
-array-share-prefix-message : tie.Need-array-share-prefix-message
-array-share-prefix-message c = search needs
-
-slice-aggregate-list : tie.Need-slice-aggregate-list
-slice-aggregate-list c = search needs
-
-list-requires : tie.Need-list-requires
-list-requires c κs = search needs
+listed-requires : tie.Need-listed-requires
+listed-requires c κs = search needs
 
 array-share-prefix-text : tie.Need-array-share-prefix-text
-array-share-prefix-text c = omega (arith, c .list .ensures .0, simp length-append at (ap length (c .list .ensures .1)))
+array-share-prefix-text c = omega (arith, c .listed .ensures .0, simp length-append at (ap length (c .listed .ensures .1)))
 
 slice-aggregate-write-all : tie.Need-slice-aggregate-write-all
-slice-aggregate-write-all c = sym (length-take-le (c .before .list .result) (c .before .list .last .1 .0) (array-share-prefix-text (c .before)))
+slice-aggregate-write-all c = sym (length-take-le (c .before .listed .result) (c .before .listed .last .1 .1 .0) (array-share-prefix-text (c .before)))
 
 write-all-requires : tie.Need-write-all-requires
 write-all-requires c κs = search needs
@@ -40,9 +34,7 @@ main-spec =
     (tie.spec
     slice-aggregate-read-full
     read-full-requires
-    array-share-prefix-message
-    slice-aggregate-list
-    list-requires
+    listed-requires
     array-share-prefix-text
     slice-aggregate-write-all
     write-all-requires

@@ -77,7 +77,11 @@ returns-10 c = rw (c .text-len .ensures, c .before .match .keys10)
 
 returns-11 : tie.Need-returns-11
 unfolding meaningOf
-returns-11 c = rw (else-opaque (c .before .before .args .k) (c .match .rest))
+returns-11 c = rw (c .match .keys11)
+
+returns-12 : tie.Need-returns-12
+unfolding meaningOf
+returns-12 c = rw (else-opaque (c .before .before .args .k) (c .match .rest .0) (c .match .rest .1))
 
 pub joined-value-spec : {M : Type 1} → statement M
 joined-value-spec =
@@ -101,4 +105,5 @@ joined-value-spec =
     returns-8
     returns-9
     returns-10
-    returns-11)
+    returns-11
+    returns-12)

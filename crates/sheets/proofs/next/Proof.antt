@@ -1,95 +1,55 @@
--- `sheets::next` is safe and ends: what is read of a sheet lies within its array, and the buffer as well. Assumes nothing.
+-- `sheets::next` is safe and ends: what is lent lies within its array. Assumes nothing.
 use borrow.Author.Needs.{needs}
 use mathlib.Core.Path.{sym}
 use lib.Seq.{length-take-le}
 use Rattle.sheets.proofs.next.Statement.{statement}
 use Rattle.sheets.proofs.next.Tie as tie
 
-slice-aggregate-read-full : tie.Need-slice-aggregate-read-full
-slice-aggregate-read-full c = search needs
+slice-aggregate-next : tie.Need-slice-aggregate-next
+slice-aggregate-next c = search needs
 
-read-full-requires : tie.Need-read-full-requires
-read-full-requires c κs = search needs
+slice-aggregate-next-2 : tie.Need-slice-aggregate-next-2
+slice-aggregate-next-2 c = search needs
+
+slice-aggregate-next-3 : tie.Need-slice-aggregate-next-3
+slice-aggregate-next-3 c = search needs
+
+next-requires : tie.Need-next-requires
+next-requires c κs = search needs
 
 returns : tie.Need-returns
 returns c = search needs
 
-array-read-be16 : tie.Need-array-read-be16
-array-read-be16 c = search needs
+slice-aggregate-part : tie.Need-slice-aggregate-part
+slice-aggregate-part c = search needs
 
-array-read-be16-2 : tie.Need-array-read-be16-2
-array-read-be16-2 c = search needs
-
-be16-requires : tie.Need-be16-requires
-be16-requires c κs = search needs
-
-cast-length : tie.Need-cast-length
-cast-length c = search needs
-
-array-read-be16-3 : tie.Need-array-read-be16-3
-array-read-be16-3 c = search needs
-
-array-read-be16-4 : tie.Need-array-read-be16-4
-array-read-be16-4 c = search needs
-
-be16-requires-2 : tie.Need-be16-requires-2
-be16-requires-2 c κs = search needs
-
-cast-size : tie.Need-cast-size
-cast-size c = search needs
-
-returns-2 : tie.Need-returns-2
-returns-2 c = search needs
-
-returns-3 : tie.Need-returns-3
-returns-3 c = search needs
-
-array-borrow-prefix-sheet : tie.Need-array-borrow-prefix-sheet
-array-borrow-prefix-sheet c = search needs
-
-slice-aggregate-body : tie.Need-slice-aggregate-body
-slice-aggregate-body c = sym (length-take-le _ _ (array-borrow-prefix-sheet (c .before)))
+part-requires : tie.Need-part-requires
+part-requires c κs = search needs
 
 array-borrow-prefix-buf : tie.Need-array-borrow-prefix-buf
 array-borrow-prefix-buf c = search needs
 
-slice-aggregate-body-2 : tie.Need-slice-aggregate-body-2
-slice-aggregate-body-2 c = sym (length-take-le _ _ (array-borrow-prefix-buf (c .before)))
+slice-aggregate-one : tie.Need-slice-aggregate-one
+slice-aggregate-one c = sym (length-take-le _ _ (array-borrow-prefix-buf (c .before)))
 
-array-read-body : tie.Need-array-read-body
-array-read-body c = search needs
+one-requires : tie.Need-one-requires
+one-requires c κs = search needs
 
-array-read-body-2 : tie.Need-array-read-body-2
-array-read-body-2 c = search needs
-
-body-requires : tie.Need-body-requires
-body-requires c κs = search needs
-
-returns-4 : tie.Need-returns-4
-returns-4 c = search needs
+returns-2 : tie.Need-returns-2
+returns-2 c = search needs
 
 pub next-spec : {M : Type 1} → statement M
 next-spec =
     tie.close
     (tie.spec
-    slice-aggregate-read-full
-    read-full-requires
+    slice-aggregate-next
+    slice-aggregate-next-2
+    slice-aggregate-next-3
+    next-requires
     returns
-    array-read-be16
-    array-read-be16-2
-    be16-requires
-    cast-length
-    array-read-be16-3
-    array-read-be16-4
-    be16-requires-2
-    cast-size
-    returns-2
-    returns-3
-    array-borrow-prefix-sheet
-    slice-aggregate-body
+    slice-aggregate-part
+    part-requires
     array-borrow-prefix-buf
-    slice-aggregate-body-2
-    array-read-body
-    array-read-body-2
-    body-requires
-    returns-4)
+    slice-aggregate-one
+    one-requires
+    returns-2)

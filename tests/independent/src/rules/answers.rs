@@ -36,6 +36,8 @@ pub enum Kind {
     Signed32 = 9,
     Text = 10,
     Opaque = 11,
+    /// Request 09.
+    Relay = 12,
 }
 
 /// "the field that holds its code byte (options, file, sname)"
@@ -87,6 +89,16 @@ pub struct RollCall {
     pub words: [u64; 4],
     pub count: u32,
     pub lowest: u32,
+}
+
+/// What the reader of sub-options answers: how many bytes it gave, and "circuit id (1) and
+/// remote id (2), each absent or the first of that code, as its data's start and
+/// length in the bytes given".
+#[derive(Clone, Copy, PartialEq, Eq, Debug)]
+pub struct Listed {
+    pub size: usize,
+    pub circuit: Option<Part>,
+    pub remote: Option<Part>,
 }
 
 /// A set of codes: "code c standing at bit c mod 64 of word c div 64".

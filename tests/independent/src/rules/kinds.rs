@@ -20,6 +20,9 @@ impl Fault {
     }
 }
 
+/// "option 82 of RFC 3046"
+pub const RELAY_INFORMATION: u8 = 82;
+
 /// The row of a code.
 pub fn kind_of(code: u8) -> Option<Kind> {
     ROWS[usize::from(code)]
@@ -35,13 +38,14 @@ static ROWS: [Option<Kind>; 256] = {
     rows
 };
 
-/// "Codes 62, 63 and 77 to 254 have no row."
+/// "Codes 62, 63 and 77 to 254 have no row." Request 09: "Give it a row".
+/// Request 10 retires 8, 10 and 34.
 const fn row(code: u8) -> Option<Kind> {
     match code {
         1 | 16 | 28 | 32 | 50 | 54 => Some(Kind::Address),
-        3..=11 | 41 | 42 | 44 | 45 | 48 | 49 | 65 | 68 | 69..=76 => Some(Kind::AddressList),
+        3..=7 | 9 | 11 | 41 | 42 | 44 | 45 | 48 | 49 | 65 | 68 | 69..=76 => Some(Kind::AddressList),
         21 | 33 => Some(Kind::AddressPairs),
-        19 | 20 | 27 | 29 | 30 | 31 | 34 | 36 | 39 => Some(Kind::Flag),
+        19 | 20 | 27 | 29 | 30 | 31 | 36 | 39 => Some(Kind::Flag),
         23 | 37 | 46 | 52 | 53 => Some(Kind::OneByte),
         13 | 22 | 26 | 57 => Some(Kind::Number16),
         25 => Some(Kind::List16),
@@ -49,6 +53,7 @@ const fn row(code: u8) -> Option<Kind> {
         2 => Some(Kind::Signed32),
         12 | 14 | 15 | 17 | 18 | 40 | 56 | 64 | 66 | 67 => Some(Kind::Text),
         43 | 47 | 55 | 60 | 61 => Some(Kind::Opaque),
+        RELAY_INFORMATION => Some(Kind::Relay),
         _ => None,
     }
 }
@@ -56,6 +61,9 @@ const fn row(code: u8) -> Option<Kind> {
 /// Holds data to its kind: "8 first".
 pub fn judge(kind: Kind, code: u8, data: &[u8]) -> Result<(), Fault> {
     if !length_fits(kind, code, data.len()) {
+        return Err(Fault::Length);
+    }
+    if kind == Kind::Relay && !sub_options_fill(data) {
         return Err(Fault::Length);
     }
     if !value_fits(kind, code, data) {
@@ -76,7 +84,22 @@ fn length_fits(kind: Kind, code: u8, length: usize) -> bool {
         Kind::Text => length >= 1,
         // "61: length 2 or more"
         Kind::Opaque => length >= if code == 61 { 2 } else { 1 },
+        // 8 "where sub-options [...] are under 2 bytes"
+        Kind::Relay => length >= 2,
     }
+}
+
+/// Request 09: 8 "where sub-options don't fill the data exactly"; "sub-options of
+/// code, length, data; no pads, no END; any sub-code"
+fn sub_options_fill(data: &[u8]) -> bool {
+    let mut rest = data;
+    while let [_, length, after @ ..] = rest {
+        let Some(left) = after.get(usize::from(*length)..) else {
+            return false;
+        };
+        rest = left;
+    }
+    rest.is_empty()
 }
 
 /// The data's length fits the kind.

@@ -92,21 +92,29 @@ fn judge_sheet(sheet: &[u8]) -> Result<usize, Refusal> {
     let mut tags = Codes::default();
     let mut tag_3 = None;
     let mut tag_3_before_1 = None;
+    let mut tag_82 = None;
+    let mut tag_82_not_last = None;
     let mut rest = sheet;
     while !rest.is_empty() {
         let place = sheet.len() - rest.len();
         let record;
         (record, rest) = judge_record(rest, place, &mut tags)?;
+        tag_82_not_last = tag_82;
         match record.tag {
             1 => tag_3_before_1 = tag_3,
             3 => tag_3 = Some(place),
+            kinds::RELAY_INFORMATION => tag_82 = Some(place),
             _ => (),
         }
         size += record.data.len() + 2 * piece_count(record.data.len());
     }
     // "14: tag 3 stands before tag 1"
-    match tag_3_before_1 {
-        Some(place) => refuse(14, place),
+    if let Some(place) = tag_3_before_1 {
+        return refuse(14, place);
+    }
+    // "23 for 82 not last, at its tag, after 14"
+    match tag_82_not_last {
+        Some(place) => refuse(23, place),
         None => Ok(size),
     }
 }

@@ -5,7 +5,7 @@
 use super::compare::Run;
 use super::library::library;
 use super::sides::{independent_rules, own_exports, yardstick, Subject, Yardstick};
-use independent::boundary::{self, Answer, Extent, Filled, Present, Wrote};
+use independent::boundary::{self, Answer, Extent, Filled, Present, Relay, Wrote};
 use std::panic;
 
 include!(concat!(env!("OUT_DIR"), "/variants.rs"));
@@ -22,7 +22,8 @@ pub fn run() -> i32 {
         println!("control, {name}: {}", if found.is_none() { "no difference" } else { "DIFFERS" });
         failed += usize::from(found.is_some());
     }
-    let subjects = subjects();
+    let mut subjects = subjects();
+    subjects.extend(relay_subjects());
     panic::set_hook(Box::new(|_| ()));
     for &(name, rules) in &VARIANTS {
         failed += usize::from(!told("variant", name, library(), rules));
@@ -122,6 +123,100 @@ fn subjects() -> Vec<(&'static str, Subject)> {
         ("a number by an index without its field", Subject { index_lookup: through_number, ..own }),
     ]
 }
+
+/// The same, of request 09.
+fn relay_subjects() -> Vec<(&'static str, Subject)> {
+    let own = own_exports();
+    vec![
+        ("relay records before the lent ones", Subject { relay_records: relay_before, ..own }),
+        ("relay records past the lent ones", Subject { relay_records: relay_past, ..own }),
+        ("relay records change the bytes", Subject { relay_records: relay_changes, ..own }),
+        ("refused relay records with a size", Subject { relay_records: relay_sized, ..own }),
+        ("refused relay records touch a byte", Subject { relay_records: relay_touches, ..own }),
+        ("refused relay records with a circuit id", Subject { relay_records: relay_id, ..own }),
+        ("relay records with a place", Subject { relay_records: relay_placed, ..own }),
+        ("no circuit id, with a length", Subject { relay_records: no_circuit, ..own }),
+        ("no remote id, with a start", Subject { relay_records: no_remote, ..own }),
+        ("circuit id and remote id changed", Subject { relay_records: changed_ids, ..own }),
+        ("an empty remote id without its start", Subject { relay_records: empty_remote, ..own }),
+        ("relay write past the lent ones", Subject { relay_write: sub_options_past, ..own }),
+        ("relay write changes the sheet", Subject { relay_write: sub_options_change, ..own }),
+        ("a refused relay write touches a byte", Subject { relay_write: refused_touch, ..own }),
+        ("a refused relay write with a size", Subject { relay_write: refused_sized, ..own }),
+    ]
+}
+
+/// A reader of sub-options, before or after which something is done that it may
+/// not do.
+macro_rules! wrong_relay {
+    ($name:ident, |$m:ident, $out:ident, $room:ident, $answer:ident| $done:expr) => {
+        unsafe extern "C" fn $name($m: *const u8, n: usize, $out: *mut u8, $room: usize) -> Relay {
+            #[allow(unused_mut)]
+            let mut $answer = boundary::independent_relay_records($m, n, $out, $room);
+            $done;
+            $answer
+        }
+    };
+}
+
+wrong_relay!(relay_before, |_m, out, _room, answer| *out.sub(1) ^= 1);
+wrong_relay!(relay_past, |_m, out, room, answer| *out.add(room) ^= 1);
+wrong_relay!(relay_changes, |m, _out, _room, answer| if answer.size > 0 {
+    *m.cast_mut() ^= 1;
+});
+wrong_relay!(relay_sized, |_m, _out, room, answer| if answer.refusal == 11 {
+    answer.size = room + 1;
+});
+wrong_relay!(relay_touches, |_m, out, room, answer| if answer.refusal == 8 && room > 0 {
+    *out ^= 1;
+});
+wrong_relay!(relay_id, |_m, _out, _room, answer| if answer.refusal == 11 {
+    answer.circuit.start = 2;
+});
+wrong_relay!(relay_placed, |_m, _out, room, answer| if answer.refusal == 0 {
+    answer.place = room;
+});
+wrong_relay!(no_circuit, |_m, _out, _room, answer| if answer.refusal == 0
+    && answer.circuit.start == 0
+{
+    answer.circuit.length = 1;
+});
+wrong_relay!(
+    no_remote,
+    |_m, _out, _room, answer| if answer.refusal == 0 && answer.remote.start == 0 {
+        answer.remote.start = 2;
+    }
+);
+wrong_relay!(changed_ids, |_m, _out, _room, answer| std::mem::swap(
+    &mut answer.circuit,
+    &mut answer.remote
+));
+wrong_relay!(empty_remote, |_m, _out, _room, answer| if answer.remote.length == 0 {
+    answer.remote.start = 0;
+});
+
+/// A writer of sub-options, the same.
+macro_rules! wrong_sub_options {
+    ($name:ident, |$s:ident, $out:ident, $room:ident, $filled:ident| $done:expr) => {
+        unsafe extern "C" fn $name($s: *const u8, n: usize, $out: *mut u8, $room: usize) -> Filled {
+            #[allow(unused_mut)]
+            let mut $filled = boundary::independent_relay_write($s, n, $out, $room);
+            $done;
+            $filled
+        }
+    };
+}
+
+wrong_sub_options!(sub_options_past, |_s, out, room, filled| *out.add(room) ^= 1);
+wrong_sub_options!(sub_options_change, |s, _out, _room, filled| if filled.size > 0 {
+    *s.cast_mut() ^= 1;
+});
+wrong_sub_options!(refused_touch, |_s, out, room, filled| if filled.refusal == 8 && room > 0 {
+    *out ^= 1;
+});
+wrong_sub_options!(refused_sized, |_s, _out, room, filled| if filled.refusal == 11 {
+    filled.size = room;
+});
 
 unsafe extern "C" fn writes_before(m: *const u8, n: usize, out: *mut u8, room: usize) -> Filled {
     *out.sub(1) ^= 1;

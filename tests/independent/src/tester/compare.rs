@@ -7,7 +7,7 @@ use super::lent::Lent;
 use super::rng::Rng;
 use super::sheets::Needs;
 use super::sides::{Subject, Yardstick};
-use super::{groups, messages, sheets, vendor};
+use super::{groups, messages, relay, sheets, vendor};
 use independent::boundary::{Answer, Filled};
 use independent::rules::answers::Codes;
 use std::fmt::Debug;
@@ -103,7 +103,21 @@ impl Run {
         self.bytes = bytes;
         if index.is_multiple_of(8) {
             self.grouped(seed, index);
+            self.relayed(seed, index);
         }
+    }
+
+    /// The bytes of one generated option 82, and one sheet of sub-options.
+    pub fn relayed(&mut self, seed: u64, index: u64) {
+        self.case =
+            if self.quiet { String::new() } else { format!("relay, seed {seed} index {index}") };
+        let mut rng = Rng::of_case(seed ^ 0x5209, index);
+        let mut bytes = std::mem::take(&mut self.bytes);
+        relay::bytes(&mut rng, &mut bytes);
+        self.relay(&mut rng, &bytes);
+        relay::sheet(&mut rng, &mut bytes);
+        self.relay_sheet(&mut rng, &bytes);
+        self.bytes = bytes;
     }
 
     /// One generated file with a class, and one old sheet.
@@ -578,6 +592,81 @@ impl Run {
         if filled.refusal != 0 || filled.size != sheet.len() || self.theirs.middle() != sheet {
             let got = format!("{filled:?} {}", hex(self.theirs.middle()));
             self.differ("records of written items", &got, &hex(sheet));
+        }
+    }
+
+    /// Reads the sub-options of one option 82 into sheets of several lengths.
+    pub fn relay(&mut self, rng: &mut Rng, bytes: &[u8]) {
+        self.counts.relays += 1;
+        self.hold_input(rng, bytes);
+        let mut large = vec![0; 2 * bytes.len()];
+        let whole = (self.yardstick.relay_records)(self.input.middle(), &mut large);
+        if whole.refusal != 0 {
+            let room = rng.pick(&[0, 0, 1, 7, 64, 2000]);
+            self.relay_records(rng, None, room);
+        } else {
+            let size = whole.size;
+            let any = rng.below(size + 40);
+            for room in [size, size.saturating_sub(1), 0, any] {
+                self.relay_records(rng, Some(size), room);
+            }
+        }
+        self.input_unchanged();
+    }
+
+    fn relay_records(&mut self, rng: &mut Rng, size: Option<usize>, room: usize) {
+        self.theirs.any(rng, room);
+        self.ours.copy(&self.theirs);
+        let (m, n) = (self.input.pointer(), self.input.len());
+        let out = self.theirs.pointer();
+        let answer = unsafe { (self.subject.relay_records)(m, n, out, room) };
+        let ours = (self.yardstick.relay_records)(self.input.middle(), self.ours.middle_mut());
+        self.counts.relay_records(&answer, size, room);
+        let name = || format!("relay records into {room} bytes");
+        self.equal(name, &answer, &ours);
+        self.equal_lent(name);
+    }
+
+    /// Writes one sheet of sub-options into outputs of several lengths.
+    pub fn relay_sheet(&mut self, rng: &mut Rng, bytes: &[u8]) {
+        self.counts.relays += 1;
+        let size = relay::sub_options(bytes);
+        let any = rng.below(300);
+        for room in [size, size.saturating_sub(1), size + 1, 0, any, 256] {
+            self.hold_input(rng, bytes);
+            self.relay_write(rng, bytes, size, room.min(5000));
+            self.input_unchanged();
+        }
+    }
+
+    fn relay_write(&mut self, rng: &mut Rng, sheet: &[u8], size: usize, room: usize) {
+        self.theirs.any(rng, room);
+        self.ours.copy(&self.theirs);
+        let (s, n) = (self.input.pointer(), self.input.len());
+        let out = self.theirs.pointer();
+        let filled = unsafe { (self.subject.relay_write)(s, n, out, room) };
+        let ours = (self.yardstick.relay_write)(self.input.middle(), self.ours.middle_mut());
+        self.counts.relay_write(&filled, size, room);
+        let name = || format!("relay write into {room} bytes");
+        self.equal(name, &filled, &ours);
+        self.equal_lent(name);
+        if filled.refusal == 0 && filled.size <= room {
+            self.relay_back(rng, sheet, filled.size);
+        }
+    }
+
+    /// "Written, then read with room enough, the records come back."
+    fn relay_back(&mut self, rng: &mut Rng, sheet: &[u8], size: usize) {
+        let given = self.theirs.middle()[..size].to_vec();
+        self.theirs.any(rng, sheet.len());
+        let room = self.theirs.len();
+        let out = self.theirs.pointer();
+        let answer = unsafe { (self.subject.relay_records)(given.as_ptr(), size, out, room) };
+        self.counts.calls += 1;
+        self.counts.relay_back += 1;
+        if answer.refusal != 0 || answer.size != sheet.len() || self.theirs.middle() != sheet {
+            let got = format!("{answer:?} {}", hex(self.theirs.middle()));
+            self.differ("records of written sub-options", &got, &hex(sheet));
         }
     }
 

@@ -2,7 +2,7 @@
 
 use super::index::{fault, UNUSABLE};
 use super::messages::goes_across;
-use independent::boundary::{Address, Answer, Extent, Filled, Present, Wrote};
+use independent::boundary::{Address, Answer, Extent, Filled, Present, Relay, Wrote};
 use independent::rules::answers::{Codes, Kind};
 use independent::rules::kinds::kind_of;
 use independent::rules::reading::{walk, COOKIE, FILE, OPTIONS, OVERLOAD, SNAME};
@@ -17,8 +17,14 @@ const STATUS_EMPTY: [(usize, &str); 3] = [(1, "unknown"), (4, "68"), (5, "broken
 const STATUS_FOUND: [(usize, &str); 4] =
     [(1, "unknown"), (3, "number"), (4, "part"), (5, "broken")];
 
+/// The kinds, and none of them at 0.
+const KINDS: usize = 13;
+
+/// The refusals to 23, and none at 0.
+const REFUSALS: usize = 24;
+
 /// Refusals by number; at 0 the calls that were not refused.
-type Refusals = [u64; 20];
+type Refusals = [u64; REFUSALS];
 
 pub struct Counts {
     pub messages: u64,
@@ -40,6 +46,17 @@ pub struct Counts {
     vendor_lent: [[u64; 4]; 2],
     /// Writes of items that take 255 bytes, and 256.
     vendor_full: [u64; 2],
+    relay_records: Refusals,
+    relay_write: Refusals,
+    /// Lent for sub-options: exactly, one short, longer, none at all; by call.
+    relay_lent: [[u64; 4]; 2],
+    /// Writes of sub-options that take 255 bytes, and 256.
+    relay_full: [u64; 2],
+    /// Circuit id and remote id: absent, of length 0, longer.
+    relay_id: [[u64; 3]; 2],
+    /// Option 82s and sheets of sub-options.
+    pub relays: u64,
+    pub relay_back: u64,
     /// Written items read back as their sheet.
     pub vendor_back: u64,
     index_build: Refusals,
@@ -47,7 +64,7 @@ pub struct Counts {
     /// Lookups through an index by status and field, and by kind and field;
     /// those of several pieces.
     index_status: [[u64; 4]; 6],
-    index_kind: [[u64; 3]; 12],
+    index_kind: [[u64; 3]; KINDS],
     index_several: u64,
     /// Entries that were not used, by what makes them unusable.
     unusable: [u64; 12],
@@ -64,14 +81,14 @@ pub struct Counts {
     /// Lookups by status and field: none, options, file, sname.
     status: [[u64; 4]; 6],
     /// Answers with a kind, by kind and field.
-    kind: [[u64; 3]; 12],
+    kind: [[u64; 3]; KINDS],
     /// Broken answers, by number (8, 9) and field.
     broken: [[u64; 3]; 2],
     /// Answers of options in one piece without data, by status and field.
     empty: [[u64; 3]; 6],
     /// Answers of options in several pieces, by status and field of the first.
     several: [[u64; 3]; 6],
-    several_kind: [[u64; 3]; 12],
+    several_kind: [[u64; 3]; KINDS],
     several_broken: [[u64; 3]; 2],
     /// Of these, by their whole length: 0, up to 255, up to 1,024, more.
     whole: [u64; 4],
@@ -115,20 +132,27 @@ impl Counts {
             calls: 0,
             read_back: 0,
             split: [0; 2],
-            lookup: [0; 20],
-            present: [0; 20],
-            copy: [0; 20],
-            records: [0; 20],
-            write: [0; 20],
-            vendor_records: [0; 20],
-            vendor_write: [0; 20],
+            lookup: [0; REFUSALS],
+            present: [0; REFUSALS],
+            copy: [0; REFUSALS],
+            records: [0; REFUSALS],
+            write: [0; REFUSALS],
+            vendor_records: [0; REFUSALS],
+            vendor_write: [0; REFUSALS],
             vendor_lent: [[0; 4]; 2],
             vendor_full: [0; 2],
+            relay_records: [0; REFUSALS],
+            relay_write: [0; REFUSALS],
+            relay_lent: [[0; 4]; 2],
+            relay_full: [0; 2],
+            relay_id: [[0; 3]; 2],
+            relays: 0,
+            relay_back: 0,
             vendor_back: 0,
-            index_build: [0; 20],
-            index_lookup: [0; 20],
+            index_build: [0; REFUSALS],
+            index_lookup: [0; REFUSALS],
             index_status: [[0; 4]; 6],
-            index_kind: [[0; 3]; 12],
+            index_kind: [[0; 3]; KINDS],
             index_several: 0,
             unusable: [0; 12],
             fresh: 0,
@@ -137,11 +161,11 @@ impl Counts {
             indexes: 0,
             vendors: 0,
             status: [[0; 4]; 6],
-            kind: [[0; 3]; 12],
+            kind: [[0; 3]; KINDS],
             broken: [[0; 3]; 2],
             empty: [[0; 3]; 6],
             several: [[0; 3]; 6],
-            several_kind: [[0; 3]; 12],
+            several_kind: [[0; 3]; KINDS],
             several_broken: [[0; 3]; 2],
             whole: [0; 4],
             empty_first: 0,
@@ -329,6 +353,57 @@ impl Counts {
         }
     }
 
+    /// `size` is what the sub-options take as records.
+    pub fn relay_records(&mut self, answer: &Relay, size: Option<usize>, room: usize) {
+        self.calls += 1;
+        add(&mut self.relay_records, answer.refusal as usize);
+        add_room(&mut self.relay_lent[0], size, room);
+        if answer.refusal == 0 {
+            let [circuit, remote] = &mut self.relay_id;
+            add(
+                circuit,
+                usize::from(answer.circuit.start > 0) << usize::from(answer.circuit.length > 0),
+            );
+            add(
+                remote,
+                usize::from(answer.remote.start > 0) << usize::from(answer.remote.length > 0),
+            );
+        }
+    }
+
+    /// `size` is what the records take as sub-options.
+    pub fn relay_write(&mut self, filled: &Filled, size: usize, room: usize) {
+        self.calls += 1;
+        add(&mut self.relay_write, filled.refusal as usize);
+        if let 0 | 11 = filled.refusal {
+            add_room(&mut self.relay_lent[1], Some(size), room);
+            self.relay_full[0] += u64::from(filled.refusal == 0 && size == 255);
+            self.relay_full[1] += u64::from(filled.refusal == 11 && size == 256 && room >= 256);
+        }
+    }
+
+    pub fn print_relay(&self) {
+        println!("relay information {}", self.relays);
+        print_refusals("relay_records", &self.relay_records);
+        print_refusals("relay_write", &self.relay_write);
+        println!("relay, lent exactly, one short, longer, none: {:?}", self.relay_lent);
+        println!("relay, 255 bytes given, 256 refused: {:?}", self.relay_full);
+        println!("circuit id, remote id absent, of length 0, longer: {:?}", self.relay_id);
+        println!("relay, written and read back: {}", self.relay_back);
+    }
+
+    fn missing_relay(&self, missing: &mut Missing) {
+        missing.refusals("relay_records", &self.relay_records, &[0, 8, 11]);
+        missing.refusals("relay_write", &self.relay_write, &[0, 8, 11, 12, 13, 16]);
+        missing.all("relay_records lent", &self.relay_lent[0]);
+        missing.all("relay_write lent", &self.relay_lent[1]);
+        missing.all("relay_write of 255 bytes, of 256", &self.relay_full);
+        missing.all("circuit id", &self.relay_id[0]);
+        missing.all("remote id", &self.relay_id[1]);
+        missing.one("relay, written and read back", self.relay_back);
+        missing.one("write refusal 23", self.write[23]);
+    }
+
     pub fn index_build(&mut self, filled: &Filled) {
         self.calls += 1;
         add(&mut self.index_build, filled.refusal as usize);
@@ -348,9 +423,9 @@ impl Counts {
         }
     }
 
-    /// Messages, sheets, lists, vendor information and indexes together.
+    /// Messages, sheets, lists, vendor and relay information and indexes together.
     pub fn compared(&self) -> u64 {
-        self.messages + self.sheets + self.lists + self.vendors + self.indexes
+        self.messages + self.sheets + self.lists + self.vendors + self.relays + self.indexes
     }
 
     pub fn print(&self) {
@@ -371,6 +446,7 @@ impl Counts {
         println!("vendor, lent exactly, one short, longer, none: {:?}", self.vendor_lent);
         println!("vendor, 255 bytes given, 256 refused: {:?}", self.vendor_full);
         println!("vendor, written and read back: {}", self.vendor_back);
+        self.print_relay();
         print_refusals("index_build", &self.index_build);
         print_refusals("index_lookup", &self.index_lookup);
         let [same, otherwise] = self.stale;
@@ -458,7 +534,8 @@ impl Counts {
         missing.refusals("present", &self.present, &[0, 1, 2, 3, 4, 5, 6, 7]);
         missing.refusals("copy", &self.copy, &[0, 1, 2, 3, 4, 5, 6, 7, 10, 11]);
         missing.refusals("records", &self.records, &[0, 1, 2, 3, 4, 5, 6, 7, 11]);
-        missing.refusals("write", &self.write, &[0, 1, 2, 7, 8, 9, 10, 11, 12, 13, 14, 15, 16]);
+        missing.refusals("write", &self.write, &[0, 1, 2, 7, 8, 9, 10, 11, 12, 13, 14, 15, 16, 23]);
+        self.missing_relay(&mut missing);
         missing.refusals("vendor_records", &self.vendor_records, &[0, 11, 17]);
         missing.refusals("vendor_write", &self.vendor_write, &[0, 10, 11, 12, 13, 16]);
         missing.all("vendor_records lent", &self.vendor_lent[0]);

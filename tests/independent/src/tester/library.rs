@@ -1,7 +1,7 @@
 //! The library under test: three static archives.
 
 use super::sides::Subject;
-use independent::boundary::{Address, Answer, Checked, Extent, Filled, Present, Wrote};
+use independent::boundary::{Address, Answer, Checked, Extent, Filled, Present, Relay, Wrote};
 
 #[link(name = "dhcpopt_reader", kind = "static")]
 extern "C" {
@@ -22,12 +22,14 @@ extern "C" {
     fn dhcpopt_present(m: *const u8, n: usize) -> Present;
     fn dhcpopt_records(m: *const u8, n: usize, out: *mut u8, room: usize) -> Filled;
     fn dhcpopt_vendor_records(bytes: *const u8, n: usize, out: *mut u8, room: usize) -> Filled;
+    fn dhcpopt_relay_records(bytes: *const u8, n: usize, out: *mut u8, room: usize) -> Relay;
 }
 
 #[link(name = "dhcpopt_writer", kind = "static")]
 extern "C" {
     fn dhcpopt_write(sheet: *const u8, n: usize, m: *mut u8, room: usize, permission: u8) -> Wrote;
     fn dhcpopt_vendor_write(sheet: *const u8, n: usize, out: *mut u8, room: usize) -> Filled;
+    fn dhcpopt_relay_write(sheet: *const u8, n: usize, out: *mut u8, room: usize) -> Filled;
     fn dhcpopt_check_grouped(file: *const u8, n: usize) -> Checked;
     fn dhcpopt_choose(
         file: *const u8,
@@ -69,6 +71,8 @@ pub fn library() -> Subject {
         write: dhcpopt_write,
         vendor_records: dhcpopt_vendor_records,
         vendor_write: dhcpopt_vendor_write,
+        relay_records: dhcpopt_relay_records,
+        relay_write: dhcpopt_relay_write,
         index_build: dhcpopt_index_build,
         index_lookup: dhcpopt_index_lookup,
         check: dhcpopt_check_grouped,

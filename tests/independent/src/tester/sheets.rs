@@ -4,6 +4,7 @@
 use super::rng::Rng;
 use super::values::{self, Want};
 use independent::rules::answers::Codes;
+use independent::rules::kinds::RELAY_INFORMATION;
 use independent::rules::reading::{COOKIE, END, FILE, LONGEST, OPTIONS, OVERLOAD, SNAME};
 
 const LONGEST_SHEET: usize = 4096;
@@ -46,17 +47,20 @@ struct Faults {
     value: bool,
     order: bool,
     cut: bool,
+    /// 82 before the last record.
+    early: bool,
 }
 
 impl Faults {
     fn add(&mut self, rng: &mut Rng) {
-        match rng.below(7) {
+        match rng.below(8) {
             0 => self.tag = true,
             1 => self.long = true,
             2 => self.repeat = true,
             3 => self.length = true,
             4 => self.value = true,
             5 => self.order = true,
+            7 => self.early = true,
             _ => self.cut = true,
         }
     }
@@ -72,7 +76,10 @@ struct Builder<'r> {
 impl<'r> Builder<'r> {
     fn new(rng: &'r mut Rng, out: &'r mut Vec<u8>) -> Builder<'r> {
         out.clear();
-        Builder { rng, used: Codes::default(), tags: Vec::new(), out }
+        let mut used = Codes::default();
+        // 82 comes last, where it is put.
+        used.add(RELAY_INFORMATION);
+        Builder { rng, used, tags: Vec::new(), out }
     }
 
     fn take(&mut self, tag: u8) -> bool {
@@ -148,6 +155,9 @@ impl<'r> Builder<'r> {
             self.rng.pick(&self.tags)
         } else if faults.order && self.take(3) {
             3
+        } else if faults.early {
+            self.tags.push(RELAY_INFORMATION);
+            RELAY_INFORMATION
         } else {
             self.fresh_tag(want)
         };
@@ -161,11 +171,18 @@ impl<'r> Builder<'r> {
         }
     }
 
+    /// 82 as the last record, in some sheets.
+    fn relay(&mut self, share: usize, want: Want, limit: usize) {
+        if self.rng.percent(share) && !self.tags.contains(&RELAY_INFORMATION) {
+            self.record(RELAY_INFORMATION, want, limit);
+        }
+    }
+
     /// A record over 255 bytes that the writer splits.
     fn split_record(&mut self, room: usize) {
         let mut tag = values::unbounded(self.rng);
         for _ in 0..40 {
-            if self.take(tag) {
+            if self.take(tag) || tag == RELAY_INFORMATION && self.rng.percent(10) {
                 break;
             }
             tag = values::unbounded(self.rng);
@@ -243,6 +260,14 @@ fn good(rng: &mut Rng, out: &mut Vec<u8>) {
             break;
         }
     }
+    if size >= 300 && builder.rng.percent(20) {
+        let length = builder.rng.between(200, 700);
+        let at = builder.head(RELAY_INFORMATION);
+        values::long(builder.rng, RELAY_INFORMATION, length, builder.out);
+        builder.set_length(at);
+    } else {
+        builder.relay(40, Want::Good, limit.max(8));
+    }
 }
 
 /// A sheet with one or two faults, in one record or in two.
@@ -277,6 +302,8 @@ fn faulty(rng: &mut Rng, count: usize, out: &mut Vec<u8>) {
         let want = if builder.rng.percent(90) { Want::Good } else { Want::Any };
         builder.record(1, want, 255);
     }
+    let want = if builder.rng.percent(50) { Want::BadLength } else { Want::Good };
+    builder.relay(20, want, 64);
 }
 
 fn merged(a: Faults, b: Faults) -> Faults {
@@ -288,6 +315,7 @@ fn merged(a: Faults, b: Faults) -> Faults {
         value: a.value | b.value,
         order: a.order | b.order,
         cut: a.cut | b.cut,
+        early: a.early | b.early,
     }
 }
 

@@ -1,7 +1,7 @@
 //! The two sides that are compared: the library under test, by its C
 //! functions, and the yardstick, by safe ones.
 
-use independent::boundary::{Address, Answer, Checked, Extent, Filled, Present, Wrote};
+use independent::boundary::{Address, Answer, Checked, Extent, Filled, Present, Relay, Wrote};
 use independent::rules::answers::Codes;
 
 type Asked = unsafe extern "C" fn(*const u8, usize, u64, u64, u64, u64, u8) -> Answer;
@@ -25,6 +25,8 @@ pub struct Subject {
     pub write: unsafe extern "C" fn(*const u8, usize, *mut u8, usize, u8) -> Wrote,
     pub vendor_records: unsafe extern "C" fn(*const u8, usize, *mut u8, usize) -> Filled,
     pub vendor_write: unsafe extern "C" fn(*const u8, usize, *mut u8, usize) -> Filled,
+    pub relay_records: unsafe extern "C" fn(*const u8, usize, *mut u8, usize) -> Relay,
+    pub relay_write: unsafe extern "C" fn(*const u8, usize, *mut u8, usize) -> Filled,
     pub index_build: unsafe extern "C" fn(*const u8, usize, *mut u16, usize) -> Filled,
     pub index_lookup: AskedThrough,
     pub check: unsafe extern "C" fn(*const u8, usize) -> Checked,
@@ -46,6 +48,8 @@ pub struct Yardstick {
     pub write: fn(&[u8], &mut [u8], u8) -> Wrote,
     pub vendor_records: fn(&[u8], &mut [u8]) -> Filled,
     pub vendor_write: fn(&[u8], &mut [u8]) -> Filled,
+    pub relay_records: fn(&[u8], &mut [u8]) -> Relay,
+    pub relay_write: fn(&[u8], &mut [u8]) -> Filled,
     pub index_build: fn(&[u8], &mut [u16]) -> Filled,
     pub index_lookup: fn(&[u8], &[u16], Codes, u8) -> Answer,
     pub check: fn(&[u8]) -> Checked,
@@ -73,6 +77,8 @@ macro_rules! yardstick {
             },
             vendor_records: |bytes, sheet| $($rules)::+::vendor::records(bytes, sheet).into(),
             vendor_write: |sheet, out| $($rules)::+::vendor::write(sheet, out).into(),
+            relay_records: |bytes, sheet| $($rules)::+::relay::records(bytes, sheet).into(),
+            relay_write: |sheet, out| $($rules)::+::relay::write(sheet, out).into(),
             index_build: |m, index| $($rules)::+::index::build(m, index).into(),
             index_lookup: |m, index, known, code| {
                 $($rules)::+::index::lookup(m, index, known, code).into()
@@ -105,6 +111,8 @@ pub fn own_exports() -> Subject {
         write: independent_write,
         vendor_records: independent_vendor_records,
         vendor_write: independent_vendor_write,
+        relay_records: independent_relay_records,
+        relay_write: independent_relay_write,
         index_build: independent_index_build,
         index_lookup: independent_index_lookup,
         check: independent_check_grouped,

@@ -1,12 +1,13 @@
 //! Data of options: good and bad lengths and values of every kind.
 
+use super::relay;
 use super::rng::Rng;
 use independent::rules::answers::Kind;
-use independent::rules::kinds::kind_of;
+use independent::rules::kinds::{kind_of, RELAY_INFORMATION};
 
 /// The codes with a rule on their value, 52 apart.
 const JUDGED: &[u8] = &[
-    12, 14, 15, 17, 18, 19, 20, 22, 23, 25, 26, 27, 29, 30, 31, 33, 34, 36, 37, 39, 40, 46, 53, 56,
+    12, 14, 15, 17, 18, 19, 20, 22, 23, 25, 26, 27, 29, 30, 31, 33, 36, 37, 39, 40, 46, 53, 56,
     57, 64, 66, 67,
 ];
 
@@ -34,6 +35,7 @@ pub fn want(rng: &mut Rng) -> Want {
 pub fn code(rng: &mut Rng, want: Want) -> u8 {
     loop {
         let code = match (want, rng.below(4)) {
+            (Want::Good | Want::BadLength | Want::Any, _) if rng.percent(6) => RELAY_INFORMATION,
             (Want::BadValue, _) => rng.pick(JUDGED),
             (_, 0) => rng.pick(COMMON),
             (Want::BadLength, _) | (_, 1 | 2) => rng.between(1, 76) as u8,
@@ -47,10 +49,11 @@ pub fn code(rng: &mut Rng, want: Want) -> u8 {
 
 /// A code without a row.
 pub fn rowless(rng: &mut Rng) -> u8 {
-    match rng.below(180) {
-        0 => 62,
-        1 => 63,
-        n => (n + 75) as u8,
+    loop {
+        let code = rng.between(1, 254) as u8;
+        if kind_of(code).is_none() {
+            return code;
+        }
     }
 }
 
@@ -59,6 +62,10 @@ pub fn data(rng: &mut Rng, code: u8, want: Want, limit: usize, out: &mut Vec<u8>
     let from = out.len();
     match want {
         Want::Good => good(rng, code, limit, out),
+        Want::BadLength if kind_of(code) == Some(Kind::Relay) => {
+            relay::good(rng, limit, out);
+            relay::spoil(rng, from, out);
+        }
         Want::BadLength => bad_length(rng, limit, out),
         Want::BadValue => bad_value(rng, code, limit, out),
         Want::Any => {
@@ -92,6 +99,7 @@ pub fn long(rng: &mut Rng, code: u8, length: usize, out: &mut Vec<u8>) {
             let zeros = if rng.percent(50) { rng.below(length + 1) } else { 0 };
             out[from + length - zeros..].fill(0);
         }
+        Some(Kind::Relay) => relay::exact(rng, length, out),
         _ => rng.telling_bytes(length, out),
     }
     if rng.percent(10) && out.len() > from {
@@ -105,6 +113,9 @@ pub fn long(rng: &mut Rng, code: u8, length: usize, out: &mut Vec<u8>) {
 
 /// A code whose data may be of any length, or of any multiple of its size.
 pub fn unbounded(rng: &mut Rng) -> u8 {
+    if rng.percent(12) {
+        return RELAY_INFORMATION;
+    }
     match rng.below(8) {
         0 => rng.pick(&[3, 6, 41, 65, 68, 76]),
         1 => rng.pick(&[21, 33]),
@@ -164,6 +175,7 @@ fn good(rng: &mut Rng, code: u8, limit: usize, out: &mut Vec<u8>) {
             let length = free_length(rng, if code == 61 { 2 } else { 1 }, limit);
             rng.telling_bytes(length, out);
         }
+        Some(Kind::Relay) => relay::good(rng, limit, out),
         None => {
             let length = free_length(rng, 0, limit);
             rng.telling_bytes(length, out);

@@ -1,0 +1,39 @@
+-- `c_theorems::proved` meets its contract. Assumes nothing.
+use Rattle.c_theorems.proofs.Fills.{records-refused, copy-refused, vendor-records-refused, vendor-write-refused, build-refused, choose-refused, group-refused, ungroup-refused}
+use Rattle.c_theorems.proofs.Calls.{lookup-refused, index-lookup-refused, data-refused, text-refused, present-refused, write-refused, check-refused}
+use Rattle.c_theorems.proofs.Shown.{lookup-for-c, absent-for-c, index-lookup-for-c, data-for-c, copy-for-c, present-for-c, addresses-for-c}
+use Rattle.c_theorems.proofs.Written.{sheet-back-for-c, demand-3-for-c, others-for-c}
+use Rattle.c_theorems.proofs.proved.Statement.{statement}
+use Rattle.c_theorems.proofs.proved.Tie as tie
+
+returns : tie.Need-returns
+returns c = (
+  lookup-refused,
+  index-lookup-refused,
+  data-refused,
+  text-refused,
+  present-refused,
+  records-refused,
+  copy-refused,
+  vendor-records-refused,
+  build-refused,
+  write-refused,
+  vendor-write-refused,
+  check-refused,
+  choose-refused,
+  group-refused,
+  ungroup-refused,
+  lookup-for-c,
+  absent-for-c,
+  index-lookup-for-c,
+  data-for-c,
+  copy-for-c,
+  present-for-c,
+  addresses-for-c,
+  sheet-back-for-c,
+  demand-3-for-c,
+  others-for-c,
+)
+
+pub proved-spec : {M : Type 1} → statement M
+proved-spec = tie.close (tie.spec returns)

@@ -1,0 +1,4 @@
+-- What the demands say of the calls that C links
+pub mod Refusals
+pub mod Answers
+pub mod Sheets

@@ -1,0 +1,2 @@
+-- Cases worked by hand
+pub mod Cases

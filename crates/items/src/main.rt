@@ -1,7 +1,6 @@
 // Reads vendor information and relay information, and sheets of their items, from standard input, and prints what the calls that C links give of each (tests/items/README.md).
 use console::one;
 use console::word;
-use dhcpopt_reader::PlainRelay;
 use filled::PlainFilled;
 use message::part;
 
@@ -54,14 +53,6 @@ fn write(sheet: &[u8], out: &mut [u8]) {
     word(b"-\n");
 }
 
-fn records(r: &PlainRelay) -> PlainFilled {
-    PlainFilled {
-        refusal: r.refusal,
-        size: r.size,
-        place: r.place,
-    }
-}
-
 // A circuit id or remote id: its start and length, or that it is absent; no data start at 0.
 fn id(name: &[u8], start: usize, length: usize) {
     if start == 0 {
@@ -77,15 +68,28 @@ fn id(name: &[u8], start: usize, length: usize) {
 fn relay_back(sheet: &[u8], bytes: &[u8]) {
     let mut out = [0u8; 4096];
     let r = dhcpopt_reader::dhcpopt_relay_records(bytes, &mut out);
-    same(sheet, records(&r), &out);
+    let g = PlainFilled {
+        refusal: r.refusal,
+        size: r.size,
+        place: r.place,
+    };
+    same(sheet, g, &out);
 }
 
 fn relay_read(bytes: &[u8], out: &mut [u8]) {
     let r = dhcpopt_reader::dhcpopt_relay_records(bytes, out);
-    shown(records(&r), out);
-    if r.refusal == 0 {
-        id(b"circuit", r.circuit.start, r.circuit.length);
-        id(b"remote", r.remote.start, r.remote.length);
+    let given = r.refusal == 0;
+    let circuit = r.circuit;
+    let remote = r.remote;
+    let g = PlainFilled {
+        refusal: r.refusal,
+        size: r.size,
+        place: r.place,
+    };
+    shown(g, out);
+    if given {
+        id(b"circuit", circuit.start, circuit.length);
+        id(b"remote", remote.start, remote.length);
     }
     word(b"-\n");
 }

@@ -20,6 +20,7 @@ use Rattle.theorems.proofs.Reading.{refused-by-the-table}
 use Rattle.theorems.proofs.Lookup.{lookup-refused-by-the-table, lookup-is-correct}
 use Rattle.theorems.proofs.Indexes.{answers-by-the-words}
 use Rattle.writing_theorems.proofs.Declined.{declined-iff}
+use Rattle.writing_theorems.proofs.Room.{eleven-is-no-room, plan-is-lowest}
 use Rattle.grouped_theorems.proofs.Rows.{check-is-correct}
 use Rattle.present.proofs.Kept.{refused-by-a-number}
 use Rattle.plan.proofs.Numbers.{refusals-are-numbered}
@@ -28,7 +29,7 @@ use Rattle.groups.proofs.Numbers.{check-kept}
 use Rattle.dhcpopt_reader.specs.Plain.{plainAnswer, plainExtent, plainCodes}
 use Rattle.dhcpopt_writer.specs.Plain.{plainWrote}
 use Rattle.c_theorems.specs.Refusals as said
-use Rattle.c_theorems.specs.Refusals.{Says, LookupRefusedForC, IndexLookupRefusedForC, DataRefusedForC, TextRefusedForC, PresentRefusedBy, PresentRefusedForC, WriteRefusedBy, WriteRefusedForC, CheckRefusedBy, CheckRefusedForC}
+use Rattle.c_theorems.specs.Refusals.{Says, LookupRefusedForC, IndexLookupRefusedForC, DataRefusedForC, TextRefusedForC, PresentRefusedBy, PresentRefusedForC, WriteRefusedBy, WriteRefusedForC, RoomTold, NoRoomForC, CheckRefusedBy, CheckRefusedForC}
 
 -- ---- A lookup
 
@@ -152,6 +153,31 @@ write-by s m permission all (declined k q) e =
 
 pub write-refused : WriteRefusedForC
 write-refused s m permission r after all c = rw (c .0, c .1) (write-by s m permission all (writer kinds s m permission) refl)
+
+-- no room, and the lowest plan
+room-by : (s m : List ℕ) (permission : ℕ) → AllBytes s → (x : Wrote) → writer kinds s m permission ≡ x → RoomTold s m permission (plainWrote x)
+room-by s m permission all (wrote plan w) e =
+    record {
+      no-room = λ p. ((λ y. absurd (omega (arith, y .1))), (λ x. let z : wrote plan w ≡ declined 11 p = sym e ∙ eleven-is-no-room s m permission p all .1 x in clash (cc)));
+      lowest = λ q. (
+        (λ y. plan-is-lowest kinds s m permission q all .0 (w, e ∙ ap (λ (k : ℕ). wrote k w) (y .1))),
+        (λ x. let y = plan-is-lowest kinds s m permission q all .1 x in let z : wrote plan w ≡ wrote q (y .0) = sym e ∙ y .1 in let i : plan ≡ q = cc in (refl, i)),
+      );
+    }
+room-by s m permission all (declined k q) e =
+    record {
+      no-room = λ p. (
+        (λ y. eleven-is-no-room s m permission p all .0 (e ∙ ap₂ declined (y .1) (y .2))),
+        (λ x. let z : declined k q ≡ declined 11 p = sym e ∙ eleven-is-no-room s m permission p all .1 x in let i : k ≡ 11 = cc in let j : q ≡ p = cc in ((λ o. omega arith), i, j)),
+      );
+      lowest = λ n. (
+        (λ y. absurd (refusals-are-numbered s m permission k q e (y .0))),
+        (λ x. let y = plan-is-lowest kinds s m permission n all .1 x in let z : declined k q ≡ wrote n (y .0) = sym e ∙ y .1 in clash (cc)),
+      );
+    }
+
+pub no-room-for-c : NoRoomForC
+no-room-for-c s m permission r all e = rw e (room-by s m permission all (writer kinds s m permission) refl)
 
 -- ---- The check of a grouped file
 

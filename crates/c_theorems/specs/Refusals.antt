@@ -19,7 +19,7 @@ use Rattle.options.specs.Index.{build, lookupBy}
 use Rattle.options.specs.IndexClaims.{Builds, BuiltFrom}
 use Rattle.options.specs.IndexClaims as indexed
 use Rattle.options.specs.Writing.{writer, bufferAfter}
-use Rattle.options.specs.WriterClaims.{FirstWriteRow}
+use Rattle.options.specs.WriterClaims.{FirstWriteRow, EarlierPassed, NoCutting, LowestCutting}
 use Rattle.options.specs.GroupedFile.{FileRow, FirstOf}
 use Rattle.options.specs.Grouped.{check, choice, move, goBack}
 use Rattle.options.specs.GroupedClaims.{ChoiceRow, MoveRow, BackRow}
@@ -147,6 +147,15 @@ abbrev pub WriteRefusedForC : Type 0
 WriteRefusedForC =
     (s m : List ℕ) (permission : ℕ) (r : PlainWrote) (after : List ℕ) → AllBytes s
     → (r ≡ plainWrote (writer kinds s m permission)) × (after ≡ bufferAfter m (writer kinds s m permission)) → WriteRefusedBy s m permission r after
+
+-- Request 12, of the writer's struct: "11 is given, all earlier checks passed, exactly when no permitted plan has any cutting of the pieces"; "The plan used is the lowest-numbered with such a
+-- cutting"
+pub record RoomTold (s m : List ℕ) (permission : ℕ) (r : PlainWrote) : Type 0 where
+  pub no-room : (p : ℕ) → Says (r .refusal) (r .place) 11 p ↔ ((p ≡ length m) × EarlierPassed kinds s m permission × NoCutting s m permission)
+  pub lowest : (plan : ℕ) → ((r .refusal ≡ 0) × (r .plan ≡ plan)) ↔ (EarlierPassed kinds s m permission × LowestCutting s m permission plan)
+
+abbrev pub NoRoomForC : Type 0
+NoRoomForC = (s m : List ℕ) (permission : ℕ) (r : PlainWrote) → AllBytes s → r ≡ plainWrote (writer kinds s m permission) → RoomTold s m permission r
 
 -- "over the whole file in written order" (request 08)
 pub record CheckRefusedBy (f : List ℕ) (r : PlainChecked) : Type 0 where

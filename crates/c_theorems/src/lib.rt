@@ -5,7 +5,7 @@
 // says of what it gives, in specs/Answers or specs/Sheets; (3) both in `proved`, whose contract names every statement of specs: one that is not proved is refused there;
 // and a function that makes the call, with them as its contract.
 ghost use Rattle.c_theorems.specs.Refusals.{LookupRefusedForC, IndexLookupRefusedForC, DataRefusedForC, TextRefusedForC, PresentRefusedForC, RecordsRefusedForC, CopyRefusedForC, VendorRecordsRefusedForC, BuildRefusedForC};
-ghost use Rattle.c_theorems.specs.Refusals.{WriteRefusedForC, VendorWriteRefusedForC, CheckRefusedForC, ChooseRefusedForC, GroupRefusedForC, UngroupRefusedForC};
+ghost use Rattle.c_theorems.specs.Refusals.{WriteRefusedForC, NoRoomForC, VendorWriteRefusedForC, CheckRefusedForC, ChooseRefusedForC, GroupRefusedForC, UngroupRefusedForC};
 ghost use Rattle.c_theorems.specs.Answers.{LookupForC, AbsentForC, IndexLookupForC, DataForC, CopyForC, PresentForC, AddressesForC};
 ghost use Rattle.c_theorems.specs.Sheets.{SheetBackForC, Demand3ForC, OthersForC};
 ghost use Rattle.options.specs.ReadingClaims.{IsAccepted};
@@ -23,7 +23,7 @@ use groups::PlainChecked;
 
 // Demand 1, of the calls that read and of those that write; then demands 2 and 3.
 pub fn proved()
-    ensures { λ _. ⌜ LookupRefusedForC × IndexLookupRefusedForC × DataRefusedForC × TextRefusedForC × PresentRefusedForC × RecordsRefusedForC × CopyRefusedForC × VendorRecordsRefusedForC × BuildRefusedForC × WriteRefusedForC × VendorWriteRefusedForC × CheckRefusedForC × ChooseRefusedForC × GroupRefusedForC × UngroupRefusedForC × LookupForC × AbsentForC × IndexLookupForC × DataForC × CopyForC × PresentForC × AddressesForC × SheetBackForC × Demand3ForC × OthersForC ⌝ }
+    ensures { λ _. ⌜ LookupRefusedForC × IndexLookupRefusedForC × DataRefusedForC × TextRefusedForC × PresentRefusedForC × RecordsRefusedForC × CopyRefusedForC × VendorRecordsRefusedForC × BuildRefusedForC × WriteRefusedForC × NoRoomForC × VendorWriteRefusedForC × CheckRefusedForC × ChooseRefusedForC × GroupRefusedForC × UngroupRefusedForC × LookupForC × AbsentForC × IndexLookupForC × DataForC × CopyForC × PresentForC × AddressesForC × SheetBackForC × Demand3ForC × OthersForC ⌝ }
 {}
 
 // ---- The calls themselves: each is called here, and what its contract gives is what the statements above speak of.

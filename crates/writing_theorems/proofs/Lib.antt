@@ -23,6 +23,9 @@ pub mod Writer
 pub mod Declined
 pub mod WriterOnly
 pub mod Options
+-- Where no cutting of the pieces holds them, there is no room
+pub mod Cuttings
+pub mod Room
 -- The writer over any list of plans
 pub mod Trying
 -- Cases of long records, computed

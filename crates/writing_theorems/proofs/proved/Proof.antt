@@ -7,6 +7,8 @@ use Rattle.writing_theorems.proofs.Writer.{writer-writes, plan-two-unus
 use Rattle.writing_theorems.proofs.Declined.{refuses-by-the-table, declined-iff}
 use Rattle.writing_theorems.proofs.Tries.{plan-two-never-first, file-for-sname, plan-two-needless, tries-right}
 use Rattle.writing_theorems.proofs.Trying.{tried-only, tried-in-order}
+use Rattle.writing_theorems.proofs.Cuttings.{holding-iff-cutting}
+use Rattle.writing_theorems.proofs.Room.{no-room-means-no-room, eleven-is-no-room, plan-is-lowest}
 use Rattle.writing_theorems.proofs.Demand.{written-is-accepted, sheet-comes-back, demand-3-known, demand-3-others, demand-3, demand-3-of-kinds}
 use Rattle.writing_theorems.proofs.IndexedDemand.{indexed-demand-3, indexed-demand-3-of-kinds}
 use Rattle.writing_theorems.proofs.LongRecords.{long-cases-hold}
@@ -35,6 +37,10 @@ returns c = (
   tries-right,
   tried-only,
   tried-in-order,
+  holding-iff-cutting,
+  no-room-means-no-room,
+  eleven-is-no-room,
+  plan-is-lowest,
   written-is-accepted,
   sheet-comes-back,
   demand-3-known,

@@ -84,7 +84,7 @@ enum dhcpopt_limit {
     DHCPOPT_LONGEST_MESSAGE = 1472, /* so it is enough for dhcpopt_copy too */
     DHCPOPT_LONGEST_PIECE = 255,    /* of an option's data in a message */
     DHCPOPT_LONGEST_RECORD = 1024,  /* of data in a record that dhcpopt_write takes */
-    DHCPOPT_LONGEST_SHEET = 4096,   /* that dhcpopt_write and dhcpopt_vendor_write take. The records of a message are always shorter; what is
+    DHCPOPT_LONGEST_SHEET = 4096,   /* that dhcpopt_write, dhcpopt_vendor_write and dhcpopt_relay_write take. The records of a message are always shorter; what is
                                        chosen from a grouped file is never longer */
     DHCPOPT_LONGEST_ITEM = 255,     /* of data in a record that dhcpopt_vendor_write takes */
     DHCPOPT_LONGEST_VENDOR = 255,   /* that dhcpopt_vendor_write gives */
@@ -256,9 +256,9 @@ enum dhcpopt_refusal {
     DHCPOPT_REFUSED_BAD_LENGTH = 8,          /* the length breaks the kind: the code or tag byte. A sub-option runs past: its code byte; none: 0 */
     DHCPOPT_REFUSED_BAD_VALUE = 9,           /* the value breaks the kind: the code or tag byte */
     DHCPOPT_REFUSED_BAD_CODE = 10,           /* reading, asked for code 0 or 255: 0. Writing, tag 0, 52 (no item) or 255: the tag byte */
-    DHCPOPT_REFUSED_NO_ROOM = 11,            /* out too small, items over 255 bytes: room. A code to copy is absent: 0. No plan fits: size */
+    DHCPOPT_REFUSED_NO_ROOM = 11,            /* out too small, items or sub-options over 255 bytes: room. A code to copy is absent: 0. No plan fits: size */
     DHCPOPT_REFUSED_RECORD_TRUNCATED = 12,   /* record head or data beyond the sheet: the tag byte */
-    DHCPOPT_REFUSED_RECORD_TOO_LONG = 13,    /* record of more than 1,024 data bytes, for items more than 255: the tag byte */
+    DHCPOPT_REFUSED_RECORD_TOO_LONG = 13,    /* record of more than 1,024 data bytes, for items and sub-options more than 255: the tag byte */
     DHCPOPT_REFUSED_ROUTER_BEFORE_MASK = 14, /* tag 3 stands before tag 1: the byte of tag 3 */
     DHCPOPT_REFUSED_BAD_PERMISSION = 15,     /* permission over 3: 0 */
     DHCPOPT_REFUSED_SHEET_TOO_LONG = 16,     /* sheet over 4,096 bytes, grouped file over 4,100: its length */
@@ -909,6 +909,15 @@ DHCPOPT_ASSERT(sizeof(dhcpopt_filled) == 24);
 DHCPOPT_MEMBER(dhcpopt_filled, refusal, 0, 4);
 DHCPOPT_MEMBER(dhcpopt_filled, size, 8, 8);
 DHCPOPT_MEMBER(dhcpopt_filled, place, 16, 8);
+DHCPOPT_ASSERT(sizeof(dhcpopt_id) == 16);
+DHCPOPT_MEMBER(dhcpopt_id, start, 0, 8);
+DHCPOPT_MEMBER(dhcpopt_id, length, 8, 8);
+DHCPOPT_ASSERT(sizeof(dhcpopt_relay) == 56);
+DHCPOPT_MEMBER(dhcpopt_relay, refusal, 0, 4);
+DHCPOPT_MEMBER(dhcpopt_relay, size, 8, 8);
+DHCPOPT_MEMBER(dhcpopt_relay, place, 16, 8);
+DHCPOPT_MEMBER(dhcpopt_relay, circuit, 24, 16);
+DHCPOPT_MEMBER(dhcpopt_relay, remote, 40, 16);
 DHCPOPT_ASSERT(sizeof(dhcpopt_checked) == 16);
 DHCPOPT_MEMBER(dhcpopt_checked, refusal, 0, 4);
 DHCPOPT_MEMBER(dhcpopt_checked, place, 8, 8);

@@ -137,7 +137,7 @@ pub record PresentRefusedBy (m : List ℕ) (r : PlainCodes) : Type 0 where
 abbrev pub PresentRefusedForC : Type 0
 PresentRefusedForC = (m : List ℕ) (r : PlainCodes) → r ≡ plainCodes (present m) → PresentRefusedBy m r
 
--- "Writing: 1, 2, 15, 16; then the first faulty record, ..; then 14, then 11"
+-- "Writing: 1, 2, 15, 16; then the first faulty record, ..; then 14, then 11", and 23 "after 14" (request 09)
 pub record WriteRefusedBy (s m : List ℕ) (permission : ℕ) (r : PlainWrote) (after : List ℕ) : Type 0 where
   pub by-rows : (n p : ℕ) → Says (r .refusal) (r .place) n p ↔ FirstWriteRow kinds s m permission n p
   pub as-it-was : (r .refusal ≡ 0 → ⊥) → (r .plan ≡ 0) × (after ≡ m)

@@ -8,18 +8,26 @@ use lib.ListN.{length, take}
 use Rattle.options.specs.Message.{Rec}
 use Rattle.options.specs.Kinds.{relay, Value, broken, part, kinds}
 use Rattle.options.specs.KindClaims.{OneOf, FromTo, AllBytes, SubOptionsAre}
-use Rattle.options.specs.Answers.{given, declined, Filled, unfilled}
+use Rattle.options.specs.Answers.{given, declined, Filled}
 use Rattle.options.specs.Sheet.{RecordBegins, Listed}
 use Rattle.options.specs.SheetRefusals.{RecordBeyond}
 use Rattle.options.specs.WriterClaims.{Has}
 use Rattle.options.specs.VendorClaims.{filled}
-use Rattle.options.specs.Relay.{Id, absent, named, RelayRead, noRelay, relayRecords, relayWrite}
+use Rattle.options.specs.Relay.{Id, absent, named, RelayRead, relayRecords, relayWrite}
 
 -- [W1, M15] records, "end to end: one-byte tag (the code), two-byte length, data", "the high byte first", whatever the tag, 0 and 255 too; a low byte below 256 leaves one high byte
 pub data RecordsAre : List Rec → List ℕ → Type 0 where
   no-record : RecordsAre [] []
   one-record : {c : ℕ} {d rest : List ℕ} {rs : List Rec} (high low : ℕ) → low < 256 → 256 * high + low ≡ length d
       → RecordsAre rs rest → RecordsAre (record { tag = c; body = d } ∷ rs) (c ∷ high ∷ low ∷ (d ++ rest))
+
+-- [R0] "Every refusal gives number and place and changes no byte lent to the call"
+abbrev pub refusedWrite : (number place : ℕ) (out : List ℕ) → Filled
+refusedWrite n p out = record { answer = declined n p; buffer = out }
+
+-- and of the reader it names no id
+abbrev pub refusedRead : (number place : ℕ) (old : List ℕ) → RelayRead
+refusedRead n p old = record { filled = record { answer = declined n p; buffer = old }; circuit = absent; remote = absent }
 
 -- ---- The reader
 
@@ -46,9 +54,9 @@ pub data IdOf (c : ℕ) (rs : List Rec) : Id → Type 0 where
 
 -- [Y1, Y2, Y3, O12] 8 at 0 for none, 8 where one runs past, then 11; else the records b of those that fill the bytes, circuit id (1) and remote id (2). A refusal names none
 pub data ReadsRelay (f old : List ℕ) : RelayRead → Type 0 where
-  read-none : f ≡ [] → ReadsRelay f old (noRelay 8 0 old)
-  read-8 : {i : ℕ} → PastAt f i → ReadsRelay f old (noRelay 8 i old)
-  read-11 : (r : Rec) (rs : List Rec) (b : List ℕ) → SubOptionsAre (r ∷ rs) f → RecordsAre (r ∷ rs) b → length old < length b → ReadsRelay f old (noRelay 11 (length old) old)
+  read-none : f ≡ [] → ReadsRelay f old (refusedRead 8 0 old)
+  read-8 : {i : ℕ} → PastAt f i → ReadsRelay f old (refusedRead 8 i old)
+  read-11 : (r : Rec) (rs : List Rec) (b : List ℕ) → SubOptionsAre (r ∷ rs) f → RecordsAre (r ∷ rs) b → length old < length b → ReadsRelay f old (refusedRead 11 (length old) old)
   reads : (r : Rec) (rs : List Rec) (b : List ℕ) {x y : Id} → SubOptionsAre (r ∷ rs) f → RecordsAre (r ∷ rs) b → length b ≤ length old
       → IdOf 1 (r ∷ rs) x → IdOf 2 (r ∷ rs) y → ReadsRelay f old (record { filled = filled b old; circuit = x; remote = y })
 
@@ -84,11 +92,11 @@ pub record RightRelay (s : List ℕ) (rs : List Rec) : Type 0 where
 
 -- [Y4, O13] 16, record by record 12 and 13, 8 at 0 for no record, 11 where the sub-options exceed the output or 255 bytes; else their bytes b are given
 pub data WritesRelay (s out : List ℕ) : Filled → Type 0 where
-  write-16 : 4096 < length s → WritesRelay s out (unfilled 16 (length s) out)
-  write-record : {n i : ℕ} → length s ≤ 4096 → FirstRelayRow s n i → WritesRelay s out (unfilled n i out)
-  write-8 : s ≡ [] → WritesRelay s out (unfilled 8 0 out)
+  write-16 : 4096 < length s → WritesRelay s out (refusedWrite 16 (length s) out)
+  write-record : {n i : ℕ} → length s ≤ 4096 → FirstRelayRow s n i → WritesRelay s out (refusedWrite n i out)
+  write-8 : s ≡ [] → WritesRelay s out (refusedWrite 8 0 out)
   write-11 : (r : Rec) (rs : List Rec) (b : List ℕ) → length s ≤ 4096 → RightRelay s (r ∷ rs) → SubOptionsAre (r ∷ rs) b
-      → (length out < length b) ⊎ (255 < length b) → WritesRelay s out (unfilled 11 (length out) out)
+      → (length out < length b) ⊎ (255 < length b) → WritesRelay s out (refusedWrite 11 (length out) out)
   writes : (r : Rec) (rs : List Rec) (b : List ℕ) → length s ≤ 4096 → RightRelay s (r ∷ rs) → SubOptionsAre (r ∷ rs) b
       → length b ≤ length out → length b ≤ 255 → WritesRelay s out (filled b out)
 

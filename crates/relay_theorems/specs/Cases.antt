@@ -4,7 +4,8 @@ use mathlib.Core.List.{List, [], _∷_, _++_}
 use Prim.Native.Nat.{ℕ}
 use lib.ListN.{replicate}
 use Rattle.options.specs.Message.{Rec}
-use Rattle.options.specs.Answers.{given, Filled, unfilled}
+use Rattle.options.specs.Answers.{given, Filled}
+use Rattle.options.specs.RelayClaims.{refusedWrite}
 use Rattle.options.specs.SheetWalk.{Sheet, sound, faulty}
 use Rattle.options.specs.Writing.{orderRules, ordered}
 use Rattle.options.specs.Relay.{Id, absent, named, RelayRead, relayRecords, relayWrite}
@@ -36,13 +37,16 @@ readCases =
     -- the first of two circuit ids; a remote id before it
     ∷ reads (2 ∷ 0 ∷ 1 ∷ 1 ∷ 7 ∷ 1 ∷ 1 ∷ 8 ∷ []) (5 ∷ 5 ∷ 5 ∷ 5 ∷ 5 ∷ 5 ∷ 5 ∷ 5 ∷ 5 ∷ 5 ∷ 5 ∷ []) (whole 11 (2 ∷ 0 ∷ 0 ∷ 1 ∷ 0 ∷ 1 ∷ 7 ∷ 1 ∷ 0 ∷ 1 ∷ 8 ∷ [])) (named 4 1) (named 2 0)
     -- no sub-options at all
-    ∷ reads [] (5 ∷ []) (unfilled 8 0 (5 ∷ [])) absent absent
+    ∷ reads [] (5 ∷ []) (refusedWrite 8 0 (5 ∷ [])) absent absent
     -- a code alone; then behind a whole one, before 11
-    ∷ reads (1 ∷ []) [] (unfilled 8 0 []) absent absent
-    ∷ reads (1 ∷ 0 ∷ 2 ∷ []) [] (unfilled 8 2 []) absent absent
-    ∷ reads (1 ∷ 0 ∷ 3 ∷ 2 ∷ 9 ∷ []) (5 ∷ []) (unfilled 8 2 (5 ∷ [])) absent absent
+    ∷ reads (1 ∷ []) [] (refusedWrite 8 0 []) absent absent
+    ∷ reads (1 ∷ 0 ∷ 2 ∷ []) [] (refusedWrite 8 2 []) absent absent
+    ∷ reads (1 ∷ 0 ∷ 3 ∷ 2 ∷ 9 ∷ []) (5 ∷ []) (refusedWrite 8 2 (5 ∷ [])) absent absent
     -- no room: no id is named
-    ∷ reads (1 ∷ 1 ∷ 7 ∷ []) (5 ∷ 5 ∷ 5 ∷ []) (unfilled 11 3 (5 ∷ 5 ∷ 5 ∷ [])) absent absent
+    ∷ reads (1 ∷ 1 ∷ 7 ∷ []) (5 ∷ 5 ∷ 5 ∷ []) (refusedWrite 11 3 (5 ∷ 5 ∷ 5 ∷ [])) absent absent
+    -- with more room: 8 behind two that are whole, and 11 at the room
+    ∷ reads (1 ∷ 0 ∷ 2 ∷ 0 ∷ 3 ∷ []) (5 ∷ 6 ∷ 7 ∷ 8 ∷ 9 ∷ []) (refusedWrite 8 4 (5 ∷ 6 ∷ 7 ∷ 8 ∷ 9 ∷ [])) absent absent
+    ∷ reads (1 ∷ 1 ∷ 7 ∷ 2 ∷ 0 ∷ []) (5 ∷ 6 ∷ 7 ∷ 8 ∷ 9 ∷ []) (refusedWrite 11 5 (5 ∷ 6 ∷ 7 ∷ 8 ∷ 9 ∷ [])) absent absent
     ∷ []
 
 abbrev pub writeCases : List WriteCase
@@ -52,13 +56,13 @@ writeCases =
     -- a code twice, in order
     ∷ writes (1 ∷ 0 ∷ 1 ∷ 7 ∷ 1 ∷ 0 ∷ 1 ∷ 8 ∷ []) (5 ∷ 5 ∷ 5 ∷ 5 ∷ 5 ∷ 5 ∷ []) (whole 6 (1 ∷ 1 ∷ 7 ∷ 1 ∷ 1 ∷ 8 ∷ []))
     -- no sub-options at all, before 11
-    ∷ writes [] [] (unfilled 8 0 [])
+    ∷ writes [] [] (refusedWrite 8 0 [])
     -- 12, before 11; 11
-    ∷ writes (1 ∷ 0 ∷ 0 ∷ 1 ∷ 0 ∷ []) [] (unfilled 12 3 [])
-    ∷ writes (1 ∷ 0 ∷ 0 ∷ []) (5 ∷ []) (unfilled 11 1 (5 ∷ []))
+    ∷ writes (1 ∷ 0 ∷ 0 ∷ 1 ∷ 0 ∷ []) [] (refusedWrite 12 3 [])
+    ∷ writes (1 ∷ 0 ∷ 0 ∷ []) (5 ∷ []) (refusedWrite 11 1 (5 ∷ []))
     -- 13, for 256 bytes of data; 11, for 256 bytes of sub-options, with output enough; 255 are given
-    ∷ writes (1 ∷ 1 ∷ 0 ∷ replicate 256 7) [] (unfilled 13 0 [])
-    ∷ writes (1 ∷ 0 ∷ 254 ∷ replicate 254 7) (replicate 257 5) (unfilled 11 257 (replicate 257 5))
+    ∷ writes (1 ∷ 1 ∷ 0 ∷ replicate 256 7) [] (refusedWrite 13 0 [])
+    ∷ writes (1 ∷ 0 ∷ 254 ∷ replicate 254 7) (replicate 257 5) (refusedWrite 11 257 (replicate 257 5))
     ∷ writes (1 ∷ 0 ∷ 253 ∷ replicate 253 7) (replicate 257 5) (whole 255 (1 ∷ 253 ∷ (replicate 253 7 ++ (5 ∷ 5 ∷ []))))
     ∷ []
 

@@ -40,6 +40,9 @@ static const trial trials[] = {
     {"", 300, 255, 15, 0, 0, 0, 0},
     {"00*4097", 1472, 3, 16, 4097, 0, 0, 0},
     {LONG("4D") LONG("4E") LONG("4F") LONG("50") LONG("51") LONG("52") LONG("53") LONG("54") LONG("55") LONG("56") LONG("57")
+         LONG("58") LONG("59") LONG("5A") LONG("5B") "5C 00 DF 01*223", /* 4,096 bytes; 82 (hex 52) is not last */
+     1472, 3, 23, 1290, 0, 0, 0},
+    {LONG("4D") LONG("4E") LONG("4F") LONG("50") LONG("51") LONG("60") LONG("53") LONG("54") LONG("55") LONG("56") LONG("57")
          LONG("58") LONG("59") LONG("5A") LONG("5B") "5C 00 DF 01*223", /* 4,096 bytes */
      1472, 3, 11, 1472, 0, 0, 0},
 

@@ -9,7 +9,7 @@ use Rattle.options.specs.KindClaims.{AllBytes}
 use Rattle.options.specs.AnswerClaims.{ListingIs}
 use Rattle.options.specs.Listed.{listed}
 
--- [L4, O8] the listing xs of m: all of it at the front of the buffer, and "bytes past what is given stay"; or [R11] "lent sheet too small", at its length, and then "changes no byte"
+-- [L4, O8] the listing xs of m: all of it at the front of the buffer, and "bytes past what is given stay"; or [R11] document 01: "lent sheet too small", at its length, and then "changes no byte"
 pub data ListsInto (m old : List ℕ) : Filled → Type 0 where
   gives : {xs : List ℕ} → ListingIs m xs → length xs ≤ length old → ListsInto m old (record { answer = given (length xs); buffer = xs ++ drop (length xs) old })
   too-small : {xs : List ℕ} → ListingIs m xs → length old < length xs → ListsInto m old (unfilled 11 (length old) old)

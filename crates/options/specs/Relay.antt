@@ -22,7 +22,7 @@ abbrev pub idIn : ℕ → List Item → Id
 idIn c [] = absent
 idIn c (x ∷ xs) = cond (eqb (x .item .tag) c) (named (x .offset + 2) (length (x .item .body))) (idIn c xs)
 
--- [Y3] what the reader answers: the records in the lent sheet, "circuit id (1) and remote id (2)"
+-- [Y3] what the reader answers: the records in the lent buffer, "circuit id (1) and remote id (2)"
 pub record RelayRead : Type 0 where
   pub filled : Filled
   pub circuit : Id
@@ -39,7 +39,7 @@ relayIn (listed xs) old =
     cond (ltb (length old) (length (recordBytes (itemRecords xs)))) (noRelay 11 (length old) old)
     (record { filled = filledWith (recordBytes (itemRecords xs)) old; circuit = idIn 1 xs; remote = idIn 2 xs })
 
--- [Y2, R8] the sub-options of the bytes f as records in the lent sheet `old`; "no sub-options at all give 8 at 0"
+-- [Y2, R8] the sub-options of the bytes f as records in the lent buffer `old`; "no sub-options at all give 8 at 0"
 unfoldable pub relayRecords : List ℕ → List ℕ → RelayRead
 unfolding subOptions itemsIn itemRecords recordBytes
 relayRecords [] old = noRelay 8 0 old

@@ -222,7 +222,8 @@ int main(void)
             refused(p);
         else
             accepted(p);
-        puts("-");
+        plain_profiled profiled = plain_profile(m, n);
+        printf("profile %u refusal %u %zu\n-\n", profiled.broken, profiled.refusal, profiled.place);
     }
     return 0;
 }

@@ -3,6 +3,7 @@
  *                            looks up three codes also with any byte changed
  * compare index FILE...      builds an index of each message with both, also with any byte changed, and looks up every code through it and through
  *                            others; an index of the same bytes must give the answers of the plain lookup
+ * compare profile FILE...    judges each message by the reply profile with both: also with any byte changed, and with codes turned into one another
  * compare grouped FILE...    checks each grouped file, chooses from it and takes it back with both: cut off anywhere, any byte changed; its
  *                            bytes moved as a sheet
  * compare captures FILE...   takes a file of three records of the message, of which any byte is changed, with both, cut into two parts: the
@@ -357,10 +358,34 @@ static void compare_captures(const char *name)
     }
 }
 
+static void compare_profiled(const char *name)
+{
+    plain_profiled p = plain_profile(in, size);
+    dhcpopt_profile_answer l = dhcpopt_profile(in, size);
+    if (p.broken != l.broken || p.refusal != l.refusal || p.place != l.place) {
+        fprintf(stderr, "plain %u %u %zu, library %u %u %zu\n", p.broken, p.refusal, p.place, l.broken, l.refusal, l.place);
+        fail("profiles differ", name);
+    }
+}
+
+static void compare_profile(const char *name)
+{
+    static const uint8_t bytes[] = {0, 1, 2, 3, 4, 5, 6, 8, 12, 50, 51, 52, 53, 54, 55, 57, 255};
+    compare_profiled(name);
+    for (size_t i = 44; i < size; i++) {
+        uint8_t was = in[i];
+        for (size_t k = 0; k < sizeof bytes; k++) {
+            in[i] = bytes[k];
+            compare_profiled(name);
+        }
+        in[i] = was;
+    }
+}
+
 int main(int argc, char **argv)
 {
     if (argc < 3)
-        fail("usage", "compare messages|index|sheets|vendor|relay|grouped|captures FILE...");
+        fail("usage", "compare messages|index|profile|sheets|vendor|relay|grouped|captures FILE...");
     for (int i = 2; i < argc; i++) {
         memset(in, 0, sizeof in);
         size = take(argv[i], in, sizeof in);
@@ -368,6 +393,8 @@ int main(int argc, char **argv)
             compare_sheet(argv[i]);
         else if (strcmp(argv[1], "index") == 0)
             compare_index(argv[i]);
+        else if (strcmp(argv[1], "profile") == 0)
+            compare_profile(argv[i]);
         else if (strcmp(argv[1], "vendor") == 0)
             compare_inside(argv[i], compare_items);
         else if (strcmp(argv[1], "relay") == 0)

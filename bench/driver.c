@@ -42,6 +42,7 @@ static bool data_plain(void) { return plain_data(in, size, code).length > 0; }
 static bool copy_plain(void) { return plain_copy(in, size, code, out, ROOM).refusal == 0; }
 static bool present_plain(void) { return plain_present(in, size).refusal == 0; }
 static bool records_plain(void) { return plain_records(in, size, out, ROOM).refusal == 0; }
+static bool profile_plain(void) { return plain_profile(in, size).refusal == 0; }
 static bool index_build_plain(void) { return plain_index_build(in, size, numbers, 256).refusal == 0; }
 static bool index_lookup_plain(void) { return plain_index_lookup(in, size, numbers, 256, every, code).refusal == 0; }
 /* A loop of its own for each side, of which the calls are counted too. */
@@ -76,6 +77,7 @@ static bool data_library(void) { return dhcpopt_data(in, size, code).length > 0;
 static bool copy_library(void) { return dhcpopt_copy(in, size, code, out, ROOM).refusal == 0; }
 static bool present_library(void) { return dhcpopt_present(in, size).refusal == 0; }
 static bool records_library(void) { return dhcpopt_records(in, size, out, ROOM).refusal == 0; }
+static bool profile_library(void) { return dhcpopt_profile(in, size).refusal == 0; }
 static bool index_build_library(void) { return dhcpopt_index_build(in, size, numbers, 256).refusal == 0; }
 static bool index_lookup_library(void)
 {
@@ -117,6 +119,7 @@ dhcpopt_filled independent_records(const uint8_t *m, size_t n, uint8_t *out, siz
 dhcpopt_filled independent_index_build(const uint8_t *m, size_t n, uint16_t *index, size_t count);
 dhcpopt_answer independent_index_lookup(const uint8_t *m, size_t n, const uint16_t *index, size_t count, uint64_t k0, uint64_t k1,
                                         uint64_t k2, uint64_t k3, uint8_t code);
+dhcpopt_profile_answer independent_profile(const uint8_t *m, size_t n);
 dhcpopt_filled independent_choose(const uint8_t *f, size_t n, const uint8_t *class, size_t letters, uint8_t *out, size_t room);
 dhcpopt_checked independent_check_grouped(const uint8_t *f, size_t n);
 dhcpopt_filled independent_group(const uint8_t *s, size_t n, uint8_t *out, size_t room);
@@ -145,6 +148,7 @@ static bool data_rust(void) { return independent_data(in, size, code).length > 0
 static bool copy_rust(void) { return independent_copy(in, size, code, out, ROOM).refusal == 0; }
 static bool present_rust(void) { return independent_present(in, size).refusal == 0; }
 static bool records_rust(void) { return independent_records(in, size, out, ROOM).refusal == 0; }
+static bool profile_rust(void) { return independent_profile(in, size).refusal == 0; }
 static bool index_build_rust(void) { return independent_index_build(in, size, numbers, 256).refusal == 0; }
 static bool index_lookup_rust(void)
 {
@@ -180,7 +184,7 @@ typedef struct {
 
 static const char *const names[3] = {"plain", "rust", "library"};
 static const call_sides calls[] = {SIDES(lookup), SIDES(data), SIDES(copy), SIDES(present), SIDES(records), SIDES(write),
-                                   SIDES(vendor_records), SIDES(vendor_write), SIDES(relay_records), SIDES(relay_write), SIDES(index_build), SIDES(index_lookup), SIDES(thirty),
+                                   SIDES(vendor_records), SIDES(vendor_write), SIDES(relay_records), SIDES(relay_write), SIDES(index_build), SIDES(index_lookup), SIDES(thirty), SIDES(profile),
                                    SIDES(choose), SIDES(check_grouped), SIDES(group), SIDES(ungroup), SIDES(captures_feed)};
 
 static const call_sides *find(const char *name)

@@ -97,6 +97,14 @@ plain_filled plain_choose(const uint8_t *f, size_t n, const uint8_t *class, size
 plain_filled plain_group(const uint8_t *sheet, size_t n, uint8_t *out, size_t room);
 plain_filled plain_ungroup(const uint8_t *f, size_t n, uint8_t *out, size_t room);
 
+/* The reply profile, request 13: the rules broken, bits 0 to 7; or a refusal. */
+typedef struct {
+    uint32_t broken, refusal;
+    size_t place;
+} plain_profiled;
+
+plain_profiled plain_profile(const uint8_t *m, size_t n);
+
 /* A file of captures (request 11): where reading is, and the lease times met. place: of the record's first byte; got: how many bytes of the record were read. */
 typedef struct {
     uint64_t place, messages;

@@ -283,6 +283,27 @@ static void indexed(void)
     CHECK(is_absent(dhcpopt_index_lookup_known(message, n, index, 256, all, 53)));
 }
 
+/* 3 in options before 1 in file, a broken 51, 57 there and 54 missing. */
+static void profile(void)
+{
+    size_t n = OVERLOADED("\x35\x01\x05\x34\x01\x01\x03\x04\x0a\x00\x00\x01\x33\x01\x07\x39\x00\xff", "\x01\x04\xff\xff\xff\x00\xff", "");
+    dhcpopt_profile_answer a = dhcpopt_profile(message, n);
+    CHECK(a.broken == (DHCPOPT_PROFILE_NO_LEASE_TIME | DHCPOPT_PROFILE_NO_SERVER_ID | DHCPOPT_PROFILE_MAXIMUM_SIZE |
+                       DHCPOPT_PROFILE_ROUTER_BEFORE_MASK));
+    CHECK(a.refusal == DHCPOPT_NOT_REFUSED && a.place == 0);
+    n = OVERLOADED("\x35\x01\x02\x33\x04\x00\x00\x0e\x10\x36\x04\x0a\x00\x00\x01\x01\x04\xff\xff\xff\x00\x03\x04\x0a\x00\x00\x01\xff", "", "");
+    a = dhcpopt_profile(message, n);
+    CHECK(a.broken == 0 && a.refusal == DHCPOPT_NOT_REFUSED && a.place == 0);
+    a = dhcpopt_profile(message, n - 1);
+    CHECK(a.broken == 0 && a.refusal == DHCPOPT_REFUSED_NO_END && a.place == n - 1);
+    n = OVERLOADED("\x35\x01\x06\xff", "", "");
+    a = dhcpopt_profile(message, n);
+    CHECK(a.broken == 0 && a.refusal == DHCPOPT_REFUSED_NO_REPLY && a.place == 0);
+    for (unsigned bit = 0; bit < 8; bit++)
+        CHECK(dhcpopt_profile_rule_name(bit)[0] != '\0');
+    CHECK(dhcpopt_profile_rule_name(8)[0] == '\0');
+}
+
 static void records(void)
 {
     static const uint8_t wanted[9] = {51, 0, 4, 0, 0, 14, 16, 238, 238};
@@ -598,6 +619,7 @@ int main(void)
     address_pairs();
     present();
     indexed();
+    profile();
     records();
     write_sheet();
     write_long();

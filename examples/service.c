@@ -2,10 +2,11 @@
  * Stands for the box's service: reads the settings in a DHCP message, and makes an offer from a settings sheet.
  *
  *   service read MESSAGE [CODE...]                 CODE...: the codes that the meter knows. None given: all
+ *   service trust MESSAGE                          whether a meter is to trust this reply, and else why not
  *   service offer SHEET SIZE PERMISSION [MESSAGE]  SIZE: bytes of the message; MESSAGE: a file to write it to
  *   service choose GROUPED CLASS SIZE PERMISSION   the same from a sheet for all devices, for those of a class
  *
- * Exit status: 0 done, 1 refused, or a setting is broken, 2 wrong usage, or a file that cannot be read or written.
+ * Exit status: 0 done, 1 refused, a reply that is not to be trusted, or a setting is broken, 2 wrong usage, or a file that cannot be read or written.
  */
 #include "dhcpopt.h"
 
@@ -53,6 +54,7 @@ static const struct {
     [DHCPOPT_REFUSED_BAD_GROUP] = {"a group or record goes beyond what is around it, or the file is not exactly one group", "its tag byte, or the first byte behind the group"},
     [DHCPOPT_REFUSED_TOO_DEEP] = {"a group is of a fifth depth", "its tag byte"},
     [DHCPOPT_REFUSED_NO_WAY_BACK] = {"the file has a name or a group inside", "always 0"},
+    [DHCPOPT_REFUSED_NO_REPLY] = {"the message type (53) is absent, broken, or neither offer nor acknowledgement", "always 0"},
 };
 
 static const char *const PLANS[] = {
@@ -306,17 +308,43 @@ static int choose_command(char **argv)
     return offer(chosen.size, size, (uint8_t)permission);
 }
 
+/* Each rule that is broken is told, not the first alone. */
+static int trust_command(char **argv)
+{
+    size_t size;
+    if (!read_file(argv[2], message, sizeof message, &size))
+        return fail("cannot be read", argv[2]);
+    dhcpopt_profile_answer a = dhcpopt_profile(message, size);
+    if (a.refusal != DHCPOPT_NOT_REFUSED) {
+        tell_refusal("refused", a.refusal, a.place);
+        printf("\n");
+        return REFUSED;
+    }
+    if (a.broken == 0) {
+        printf("to be trusted\n");
+        return DONE;
+    }
+    printf("not to be trusted:\n");
+    for (unsigned bit = 0; bit < 8; bit++)
+        if (a.broken >> bit & 1)
+            printf("  it has %s\n", dhcpopt_profile_rule_name(bit));
+    return REFUSED;
+}
+
 int main(int argc, char **argv)
 {
     int result;
     if (argc >= 3 && strcmp(argv[1], "read") == 0) {
         result = read_command(argc, argv);
+    } else if (argc == 3 && strcmp(argv[1], "trust") == 0) {
+        result = trust_command(argv);
     } else if ((argc == 5 || argc == 6) && strcmp(argv[1], "offer") == 0) {
         result = offer_command(argc, argv);
     } else if (argc == 6 && strcmp(argv[1], "choose") == 0) {
         result = choose_command(argv);
     } else {
         fputs("usage: service read MESSAGE [CODE...]\n"
+              "       service trust MESSAGE\n"
               "       service offer SHEET SIZE PERMISSION [MESSAGE]\n"
               "       service choose GROUPED CLASS SIZE PERMISSION\n",
               stderr);

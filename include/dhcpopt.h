@@ -3,9 +3,10 @@
  *
  * libdhcpopt_extra.a has dhcpopt_list, dhcpopt_options_end and dhcpopt_index_copy;
  * libdhcpopt_writer.a has dhcpopt_write, dhcpopt_vendor_write, dhcpopt_relay_write and the calls on grouped sheets (dhcpopt_check_grouped, dhcpopt_choose,
- * dhcpopt_group, dhcpopt_ungroup), libdhcpopt_index.a has dhcpopt_index_build and dhcpopt_index_lookup, and libdhcpopt_reader.a every
- * other call, so a meter that only reads links the reader's archive alone. libdhcpopt_captures.a has the tally of captures
- * (dhcpopt_captures_begin, dhcpopt_captures_feed, dhcpopt_captures_report). docs/C-API.md has an example of each call.
+ * dhcpopt_group, dhcpopt_ungroup), libdhcpopt_index.a has dhcpopt_index_build and dhcpopt_index_lookup, libdhcpopt_profile.a has
+ * dhcpopt_profile, and libdhcpopt_reader.a every other call, so a meter that only reads links the reader's archive alone.
+ * libdhcpopt_captures.a has the tally of captures (dhcpopt_captures_begin, dhcpopt_captures_feed, dhcpopt_captures_report). docs/C-API.md
+ * has an example of each call.
  *
  * For every call:
  * - A message or sheet is a pointer and its number of bytes, an index a pointer and its count of numbers. The pointer is never null, also
@@ -39,9 +40,10 @@
  * 3.6: option 82 has a kind (RFC 3046), and must be the last of a sheet; dhcpopt_relay_records and dhcpopt_relay_write, for what is inside.
  * 3.7: 8 (cookie server), 10 (impress server) and 34 (trailer encapsulation) have no kind any more: they are unknown, and written unjudged.
  * 3.8: dhcpopt_captures_begin, dhcpopt_captures_feed and dhcpopt_captures_report: the tally of a file of captures.
+ * 3.9: dhcpopt_profile: whether a meter is to trust a reply, and which rules it breaks.
  */
 #define DHCPOPT_VERSION_MAJOR 3
-#define DHCPOPT_VERSION_MINOR 8
+#define DHCPOPT_VERSION_MINOR 9
 #define DHCPOPT_VERSION (100 * DHCPOPT_VERSION_MAJOR + DHCPOPT_VERSION_MINOR)
 
 #include <stddef.h>
@@ -270,8 +272,9 @@ enum dhcpopt_refusal {
     DHCPOPT_REFUSED_TOO_DEEP = 21,           /* grouped file, a group of a fifth depth: the tag byte */
     DHCPOPT_REFUSED_NO_WAY_BACK = 22,        /* dhcpopt_ungroup, a name or a group inside: 0 */
     DHCPOPT_REFUSED_RELAY_NOT_LAST = 23,     /* tag 82 is not the last of the sheet: its byte */
-    DHCPOPT_REFUSED_CAPTURE = 24             /* in the report of captures alone: another tag, a record cut short, or message 1,000,001: the
+    DHCPOPT_REFUSED_CAPTURE = 24,            /* in the report of captures alone: another tag, a record cut short, or message 1,000,001: the
                                                 record's first byte in the file */
+    DHCPOPT_REFUSED_NO_REPLY = 25            /* dhcpopt_profile, option 53 absent, broken, or neither offer nor acknowledgement: 0 */
 };
 
 /* Permissions to overload, and the plans that the writer may then use: the value of option 52, or 0 without it. */
@@ -359,6 +362,25 @@ typedef struct {
     uint32_t refusal; /* DHCPOPT_NOT_REFUSED, or place is where */
     size_t place;
 } dhcpopt_checked;
+
+/* The rules of a reply, as dhcpopt_profile has them: the bit of each in `broken`. */
+enum dhcpopt_profile_rule {
+    DHCPOPT_PROFILE_NO_LEASE_TIME = 1,        /* bit 0: 51 absent or broken */
+    DHCPOPT_PROFILE_NO_SERVER_ID = 2,         /* bit 1: 54 absent or broken */
+    DHCPOPT_PROFILE_REQUESTED_ADDRESS = 4,    /* bit 2: 50 there, broken or not */
+    DHCPOPT_PROFILE_PARAMETER_LIST = 8,       /* bit 3: 55 there, broken or not */
+    DHCPOPT_PROFILE_MAXIMUM_SIZE = 16,        /* bit 4: 57 there, broken or not */
+    DHCPOPT_PROFILE_NO_MASK = 32,             /* bit 5: 1 absent or broken */
+    DHCPOPT_PROFILE_NO_ROUTER = 64,           /* bit 6: 3 absent or broken */
+    DHCPOPT_PROFILE_ROUTER_BEFORE_MASK = 128  /* bit 7: 1 and 3 there, the first piece of 3 read before that of 1 */
+};
+
+/* What dhcpopt_profile says of a reply. To be trusted: refusal and broken are both 0. */
+typedef struct {
+    uint32_t broken;  /* the sum of the DHCPOPT_PROFILE_* that are broken; 0 where there is a refusal */
+    uint32_t refusal; /* DHCPOPT_NOT_REFUSED, or place is where; then nothing is said of the rules */
+    size_t place;
+} dhcpopt_profile_answer;
 
 /*
  * Looks up a code. k0 to k3 are the set of known codes: code c is bit c % 64 of word c / 64.
@@ -541,6 +563,14 @@ DHCPOPT_CALL dhcpopt_end dhcpopt_options_end(const uint8_t *message, size_t size
 DHCPOPT_CALL dhcpopt_filled dhcpopt_index_copy(const uint8_t *message, size_t size, const uint16_t *index, size_t count, uint8_t code, uint8_t *out,
                                   size_t room);
 
+/*
+ * Whether a meter is to trust a reply, an offer or an acknowledgement (message types 2 and 5), and else every rule that it breaks. Every
+ * code is known. What stands between the options that the rules name never changes the answer. The message is walked once; only for a
+ * named code in pieces is it walked again.
+ * Refused, in this order: 1 or 2 at the length; 3 at 236; 4 to 7, with places as in dhcpopt_lookup; 25 at 0.
+ */
+DHCPOPT_CALL dhcpopt_profile_answer dhcpopt_profile(const uint8_t *message, size_t size);
+
 /* A set of known codes. Begin with {{0, 0, 0, 0}} or with dhcpopt_known_all. */
 typedef struct {
     uint64_t words[4];
@@ -630,6 +660,31 @@ static inline const char *dhcpopt_kind_name(uint32_t kind)
     }
 }
 
+/* The rule of a reply that has the bit 0 to 7 in `broken`, in words; that of no rule is empty. */
+static inline const char *dhcpopt_profile_rule_name(unsigned bit)
+{
+    switch (bit) {
+    case 0:
+        return "no lease time, or a broken one";
+    case 1:
+        return "no server identifier, or a broken one";
+    case 2:
+        return "a requested address";
+    case 3:
+        return "a parameter request list";
+    case 4:
+        return "a maximum message size";
+    case 5:
+        return "no subnet mask, or a broken one";
+    case 6:
+        return "no router, or a broken list of them";
+    case 7:
+        return "the router before the subnet mask";
+    default:
+        return "";
+    }
+}
+
 /* The name of a refusal: that of DHCPOPT_REFUSED_*, in small letters and with blanks. That of none is empty. */
 static inline const char *dhcpopt_refusal_name(uint32_t refusal)
 {
@@ -682,6 +737,8 @@ static inline const char *dhcpopt_refusal_name(uint32_t refusal)
         return "relay not last";
     case DHCPOPT_REFUSED_CAPTURE:
         return "capture";
+    case DHCPOPT_REFUSED_NO_REPLY:
+        return "no reply";
     default:
         return "";
     }
@@ -909,6 +966,10 @@ DHCPOPT_ASSERT(sizeof(dhcpopt_filled) == 24);
 DHCPOPT_MEMBER(dhcpopt_filled, refusal, 0, 4);
 DHCPOPT_MEMBER(dhcpopt_filled, size, 8, 8);
 DHCPOPT_MEMBER(dhcpopt_filled, place, 16, 8);
+DHCPOPT_ASSERT(sizeof(dhcpopt_profile_answer) == 16);
+DHCPOPT_MEMBER(dhcpopt_profile_answer, broken, 0, 4);
+DHCPOPT_MEMBER(dhcpopt_profile_answer, refusal, 4, 4);
+DHCPOPT_MEMBER(dhcpopt_profile_answer, place, 8, 8);
 DHCPOPT_ASSERT(sizeof(dhcpopt_id) == 16);
 DHCPOPT_MEMBER(dhcpopt_id, start, 0, 8);
 DHCPOPT_MEMBER(dhcpopt_id, length, 8, 8);

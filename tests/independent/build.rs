@@ -6,13 +6,15 @@ use std::{env, fs, path::Path};
 
 include!("build/variants.rs");
 include!("build/relay_variants.rs");
+include!("build/profile_variants.rs");
 
 /// The files of src/rules that are copied, each with those it is used by.
-const FILES: [(&str, &[&str]); 7] = [
+const FILES: [(&str, &[&str]); 8] = [
     ("groups.rs", &["groups.rs"]),
     ("kinds.rs", &["kinds.rs", "reading.rs", "writing.rs"]),
     ("reading.rs", &["reading.rs"]),
     ("index.rs", &["index.rs"]),
+    ("profile.rs", &["profile.rs"]),
     ("writing.rs", &["writing.rs"]),
     ("vendor.rs", &["vendor.rs"]),
     ("relay.rs", &["relay.rs"]),
@@ -31,7 +33,7 @@ fn link() {
     let package = env::var("CARGO_MANIFEST_DIR").unwrap();
     let archives = format!("{package}/../../target/staticlib");
     println!("cargo:rustc-link-search=native={archives}");
-    for name in ["reader", "index", "writer"] {
+    for name in ["reader", "index", "profile", "writer"] {
         println!("cargo:rerun-if-changed={archives}/libdhcpopt_{name}.a");
     }
 }
@@ -40,7 +42,7 @@ fn link() {
 fn variants() -> String {
     let mut text = String::new();
     let mut list = String::new();
-    let all = || VARIANTS.iter().chain(RELAY_VARIANTS);
+    let all = || VARIANTS.iter().chain(RELAY_VARIANTS).chain(PROFILE_VARIANTS);
     for (i, variant) in all().enumerate() {
         writeln!(text, "#[allow(warnings, clippy::all)]\nmod variant_{i} {{").unwrap();
         writeln!(text, "pub use independent::rules::answers;").unwrap();

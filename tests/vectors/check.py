@@ -1,5 +1,5 @@
 #!/usr/bin/env python3
-"""Read crates/vectors/stdin by document 01 and requests 01 to 03, 07 and 09 anew, and hold every line of crates/vectors/stdout to it."""
+"""Read crates/vectors/stdin by document 01 and requests 01 to 03, 07, 09 and 13 anew, and hold every line of crates/vectors/stdout to it."""
 
 import struct
 import sys
@@ -7,6 +7,7 @@ from pathlib import Path
 
 HERE = Path(__file__).resolve().parent
 sys.path.append(str(HERE.parent))
+from profile_rules import profile
 from reader import FIELDS, Option, Piece, Refused, fault, join, read, records, row_of
 
 OUT = HERE.parent.parent / "crates" / "vectors"
@@ -59,13 +60,17 @@ def copied(m, code, room):
     return f"copy {code} " + filled(room, b"" if refusal else option.data, refusal)
 
 
+def profile_line(m):
+    return "profile {} refusal {} {}".format(*profile(m))
+
+
 def printed(m):
     try:
         met = read(m)
     except Refused as refused:
         refusal = "refused {} {}".format(*refused.args)
         present = "present 0 0 0 0 count 0 lowest 0 refusal {} {}".format(*refused.args)
-        return f"{refusal}\n{present}\n{copied(m, 53, 1472)}\nrecords {filled(2048, refusal=refusal)}\n-\n"
+        return f"{refusal}\n{present}\n{copied(m, 53, 1472)}\nrecords {filled(2048, refusal=refusal)}\n{profile_line(m)}\n-\n"
     options = join(met)
     out = f"accepted {len(met)}\n"
     for piece in met:
@@ -77,7 +82,7 @@ def printed(m):
     for piece in met:
         option = options[piece.code]
         out += f"{piece.code} {look_up(EVERY, piece.code, option)}\n{copied(m, piece.code, 1472)}\n"
-    return out + f"records {filled(2048, records(options))}\n-\n"
+    return out + f"records {filled(2048, records(options))}\n{profile_line(m)}\n-\n"
 
 
 # --- The lines after the cases ------------------------------------------------------------------------------------------

@@ -5,3 +5,5 @@ pub mod Calls
 pub mod Shown
 -- Demands 2 and 3, of what is written
 pub mod Written
+-- The reply profile
+pub mod Profiled

@@ -8,19 +8,24 @@ use Prim.Native.Nat.{ℕ, _+_, _≤_, _<_}
 use lib.ListN.{length, take, drop}
 use Rattle.options.specs.Message.{Opt, Holds, PiecesOf}
 use Rattle.options.specs.Kinds.{kinds, addressesOf}
-use Rattle.options.specs.KindClaims.{AllBytes}
+use Rattle.options.specs.KindClaims.{BitSet, AllBytes}
 use Rattle.options.specs.CodeSet.{marked}
 use Rattle.options.specs.Answers.{Answer, lookup, dataOf, addressStep, present, copy}
 use Rattle.options.specs.ReadingClaims.{IsAccepted, CorrectAnswer}
 use Rattle.options.specs.AnswerClaims.{JoinedBytes, CodesHeld}
 use Rattle.options.specs.Index.{lookupBy}
 use Rattle.options.specs.IndexClaims.{BuiltFrom}
+use Rattle.options.specs.Reading.{items}
+use Rattle.options.specs.Profile.{profile}
+use Rattle.options.specs.ProfileClaims.{Reply, Breaks, NamedPieces}
 use Rattle.filled.specs.Plain.{plainFilled}
 use Rattle.filled.specs.declared.PlainFilled.{PlainFilled}
 use Rattle.dhcpopt_reader.specs.Plain.{plainAnswer, plainExtent, plainAddress, plainCodes, ToldAs}
 use Rattle.dhcpopt_reader.specs.declared.PlainAnswer.{PlainAnswer}
 use Rattle.dhcpopt_reader.specs.declared.PlainExtent.{PlainExtent}
 use Rattle.dhcpopt_reader.specs.declared.PlainCodes.{PlainCodes}
+use Rattle.dhcpopt_profile.specs.Plain.{plainProfile}
+use Rattle.dhcpopt_profile.specs.declared.PlainProfile.{PlainProfile}
 use Rattle.c_theorems.specs.Refusals.{known}
 
 -- the right answer, and its members as the papers number them
@@ -80,3 +85,19 @@ pub data StepsForC (d : List ℕ) : ℕ → List ℕ → Type 0 where
 -- they give the list's addresses, each once and in order (AddressesAreTheBytes says which)
 abbrev pub AddressesForC : Type 0
 AddressesForC = (d : List ℕ) → StepsForC d 0 (addressesOf d)
+
+-- "The answer is yes, or the full set of rules broken" (request 13): of a reply, bit i of `broken` is set exactly where the rule of bit i is broken, and no other bit is
+pub record ProfileToldRight (m : List ℕ) (r : PlainProfile) : Type 0 where
+  pub not-refused : (r .refusal ≡ 0) × (r .place ≡ 0)
+  pub eight-bits : r .broken < 256
+  pub bits : (i : ℕ) → i < 8 → BitSet (r .broken) i ↔ Breaks m i
+
+abbrev pub ProfileForC : Type 0
+ProfileForC = (m : List ℕ) (r : PlainProfile) → IsAccepted m → Reply m → r ≡ plainProfile (profile m) ↔ ProfileToldRight m r
+
+-- "Accepted messages whose pieces of 53 and the codes named have the same codes and bytes in the same reading order, whatever stands between, get the same answer or
+-- refusal": every member
+abbrev pub SameNamedForC : Type 0
+SameNamedForC =
+    (m m′ : List ℕ) (xs ys : List Opt) (r r′ : PlainProfile) → IsAccepted m → IsAccepted m′ → NamedPieces m xs → NamedPieces m′ ys → items xs ≡ items ys
+    → r ≡ plainProfile (profile m) → r′ ≡ plainProfile (profile m′) → r ≡ r′

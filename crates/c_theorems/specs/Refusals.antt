@@ -23,6 +23,8 @@ use Rattle.options.specs.WriterClaims.{FirstWriteRow, EarlierPassed, NoCutting,
 use Rattle.options.specs.GroupedFile.{FileRow, FirstOf}
 use Rattle.options.specs.Grouped.{check, choice, move, goBack}
 use Rattle.options.specs.GroupedClaims.{ChoiceRow, MoveRow, BackRow}
+use Rattle.options.specs.Profile.{profile}
+use Rattle.options.specs.ProfileClaims.{Reply}
 use Rattle.filled.specs.Plain.{plainFilled}
 use Rattle.filled.specs.declared.PlainFilled.{PlainFilled}
 use Rattle.groups.specs.Check.{plainChecked}
@@ -31,6 +33,8 @@ use Rattle.dhcpopt_reader.specs.Plain.{plainAnswer, plainExtent, plainCodes}
 use Rattle.dhcpopt_reader.specs.declared.PlainAnswer.{PlainAnswer}
 use Rattle.dhcpopt_reader.specs.declared.PlainExtent.{PlainExtent}
 use Rattle.dhcpopt_reader.specs.declared.PlainCodes.{PlainCodes}
+use Rattle.dhcpopt_profile.specs.Plain.{plainProfile}
+use Rattle.dhcpopt_profile.specs.declared.PlainProfile.{PlainProfile}
 use Rattle.dhcpopt_writer.specs.Plain.{plainWrote}
 use Rattle.dhcpopt_writer.specs.declared.PlainWrote.{PlainWrote}
 
@@ -164,3 +168,18 @@ pub record CheckRefusedBy (f : List ℕ) (r : PlainChecked) : Type 0 where
 
 abbrev pub CheckRefusedForC : Type 0
 CheckRefusedForC = (f : List ℕ) (r : PlainChecked) → AllBytes f → r ≡ plainChecked (check f) → CheckRefusedBy f r
+
+-- ---- The reply profile (request 13)
+
+-- "Refusals: those of reading, then 25 for 53 absent, broken or of another type, at 0"
+pub data ProfileRow (m : List ℕ) : ℕ → ℕ → Type 0 where
+  of-reading : {n p : ℕ} → First m n p → ProfileRow m n p
+  row-25 : IsAccepted m → (Reply m → ⊥) → ProfileRow m 25 0
+
+pub record ProfileRefusedBy (m : List ℕ) (r : PlainProfile) : Type 0 where
+  pub by-rows : (n p : ℕ) → Says (r .refusal) (r .place) n p ↔ ProfileRow m n p
+  pub no-rules : (r .refusal ≡ 0 → ⊥) → r .broken ≡ 0
+  pub else-no-place : r .refusal ≡ 0 → r .place ≡ 0
+
+abbrev pub ProfileRefusedForC : Type 0
+ProfileRefusedForC = (m : List ℕ) (r : PlainProfile) → r ≡ plainProfile (profile m) → ProfileRefusedBy m r

@@ -5,15 +5,17 @@
 // says of what it gives, in specs/Answers or specs/Sheets; (3) both in `proved`, whose contract names every statement of specs: one that is not proved is refused there;
 // and a function that makes the call, with them as its contract.
 ghost use Rattle.c_theorems.specs.Refusals.{LookupRefusedForC, IndexLookupRefusedForC, DataRefusedForC, TextRefusedForC, PresentRefusedForC, RecordsRefusedForC, CopyRefusedForC, VendorRecordsRefusedForC, BuildRefusedForC};
-ghost use Rattle.c_theorems.specs.Refusals.{WriteRefusedForC, NoRoomForC, VendorWriteRefusedForC, CheckRefusedForC, ChooseRefusedForC, GroupRefusedForC, UngroupRefusedForC};
-ghost use Rattle.c_theorems.specs.Answers.{LookupForC, AbsentForC, IndexLookupForC, DataForC, CopyForC, PresentForC, AddressesForC};
+ghost use Rattle.c_theorems.specs.Refusals.{WriteRefusedForC, NoRoomForC, VendorWriteRefusedForC, CheckRefusedForC, ChooseRefusedForC, GroupRefusedForC, UngroupRefusedForC, ProfileRefusedForC};
+ghost use Rattle.c_theorems.specs.Answers.{LookupForC, AbsentForC, IndexLookupForC, DataForC, CopyForC, PresentForC, AddressesForC, ProfileForC, SameNamedForC};
 ghost use Rattle.c_theorems.specs.Sheets.{SheetBackForC, Demand3ForC, OthersForC};
 ghost use Rattle.options.specs.ReadingClaims.{IsAccepted};
 ghost use Rattle.options.specs.GroupedFile.{FirstOf};
 ghost use Rattle.options.specs.GroupedClaims.{ChoiceRow, MoveRow, BackRow};
 ghost use Rattle.options.specs.AnswerClaims.{CopyRow};
-ghost use Rattle.c_theorems.specs.Refusals.{known, FillRefused, RecordsRow, LookupRefusedBy, PresentRefusedBy, WriteRefusedBy, CheckRefusedBy, EmptyIfRefused, IndexRefusedBy, VendorReadRow, VendorWriteRow, BuildRow};
-ghost use Rattle.c_theorems.specs.Answers.{ToldRight, DataToldRight, PresentToldRight};
+ghost use Rattle.options.specs.ProfileClaims.{Reply};
+ghost use Rattle.c_theorems.specs.Refusals.{known, FillRefused, RecordsRow, LookupRefusedBy, PresentRefusedBy, WriteRefusedBy, CheckRefusedBy, EmptyIfRefused, IndexRefusedBy, VendorReadRow, VendorWriteRow, BuildRow, ProfileRefusedBy};
+ghost use Rattle.c_theorems.specs.Answers.{ToldRight, DataToldRight, PresentToldRight, ProfileToldRight};
+use dhcpopt_profile::PlainProfile;
 use dhcpopt_reader::PlainAnswer;
 use dhcpopt_reader::PlainCodes;
 use dhcpopt_reader::PlainExtent;
@@ -23,7 +25,7 @@ use groups::PlainChecked;
 
 // Demand 1, of the calls that read and of those that write; then demands 2 and 3.
 pub fn proved()
-    ensures { λ _. ⌜ LookupRefusedForC × IndexLookupRefusedForC × DataRefusedForC × TextRefusedForC × PresentRefusedForC × RecordsRefusedForC × CopyRefusedForC × VendorRecordsRefusedForC × BuildRefusedForC × WriteRefusedForC × NoRoomForC × VendorWriteRefusedForC × CheckRefusedForC × ChooseRefusedForC × GroupRefusedForC × UngroupRefusedForC × LookupForC × AbsentForC × IndexLookupForC × DataForC × CopyForC × PresentForC × AddressesForC × SheetBackForC × Demand3ForC × OthersForC ⌝ }
+    ensures { λ _. ⌜ LookupRefusedForC × IndexLookupRefusedForC × DataRefusedForC × TextRefusedForC × PresentRefusedForC × RecordsRefusedForC × CopyRefusedForC × VendorRecordsRefusedForC × BuildRefusedForC × WriteRefusedForC × NoRoomForC × VendorWriteRefusedForC × CheckRefusedForC × ChooseRefusedForC × GroupRefusedForC × UngroupRefusedForC × LookupForC × AbsentForC × IndexLookupForC × DataForC × CopyForC × PresentForC × AddressesForC × ProfileRefusedForC × ProfileForC × SameNamedForC × SheetBackForC × Demand3ForC × OthersForC ⌝ }
 {}
 
 // ---- The calls themselves: each is called here, and what its contract gives is what the statements above speak of.
@@ -124,4 +126,10 @@ pub fn ungroup_call(f: &[u8], out: &mut [u8]) -> PlainFilled
     ensures { λ r. ⌜ FillRefused (FirstOf (BackRow (now (f .entry)) (now (out .entry)))) (now (out .entry)) r (now (out .exit)) ⌝ }
 {
     dhcpopt_writer::dhcpopt_ungroup(f, out)
+}
+
+pub fn profile_call(m: &[u8]) -> PlainProfile
+    ensures { λ r. ⌜ ProfileRefusedBy (now (m .entry)) r × (IsAccepted (now (m .entry)) → Reply (now (m .entry)) → ProfileToldRight (now (m .entry)) r) ⌝ }
+{
+    dhcpopt_profile::dhcpopt_profile(m)
 }

@@ -3,7 +3,7 @@ ghost use mathlib.Core.Path.{_≡_};
 ghost use mathlib.Core.Bool.{false, cond};
 ghost use mathlib.Core.List.{[]};
 ghost use Prim.Native.Nat.{_≤_, _<_};
-ghost use lib.ListN.{length};
+ghost use lib.ListN.{length, replicate};
 ghost use Rattle.options.specs.Message.{bytes};
 ghost use Rattle.options.specs.Reading.{accepted, isOptions, allFields};
 ghost use Rattle.options.specs.Index as asked;
@@ -214,5 +214,43 @@ pub fn build(m: &[u8], index: &mut [u16]) -> Given
         };
     }
     store(&entries, index);
+    Given::Bytes(512)
+}
+
+// The numbers themselves, without the marks.
+fn clean(index: &mut [u16; 256])
+    requires { ⌜ length (now index) ≡ 256 ⌝ }
+    ensures { λ _. ⌜ now (index .exit) ≡ cleaned (now (index .entry)) ⌝ }
+{
+    let over = entry_52(index[52]);
+    index[0] = 0;
+    index[52] = over;
+    index[255] = 0;
+}
+
+// Builds the index of a message in numbers that are of no further use to the caller: the walk fills them themselves, and a refusal leaves zeros.
+pub fn build_anew(m: &[u8], index: &mut [u16; 256]) -> Given
+    ensures { λ r. ⌜ Fills (asked.build (now (m .entry)) (replicate 256 0)) r (now (index .exit)) ⌝ }
+{
+    *index = [0u16; 256];
+    let number = message::unfit(m);
+    if number != 0 {
+        return Given::Refused {
+            number,
+            place: message::unfit_place(m, number),
+        };
+    }
+    index[0] = 65535;
+    index[52] = 65535;
+    index[255] = 65535;
+    let s = fill(index, m);
+    if s.number != 0 {
+        *index = [0u16; 256];
+        return Given::Refused {
+            number: s.number,
+            place: s.place,
+        };
+    }
+    clean(index);
     Given::Bytes(512)
 }

@@ -26,6 +26,9 @@ set-is : {k x : ℕ} → BitSet x k → bit x k ≡ 1
 set-is (lowest-bit h) = let e : (h * 2 + 1) % 2 ≡ 1 = omega arith in bit-zero (h * 2 + 1) ∙ e
 set-is (higher-bit h low {k} l b) = let e : (h * 2 + low) / 2 ≡ h = omega arith in bit-suc (h * 2 + low) k ∙ ap (λ (y : ℕ). bit y k) e ∙ set-is b
 
+pub bit-set : (x k : ℕ) → bit x k ≡ 1 ↔ BitSet x k
+bit-set x k = (is-set k x, set-is)
+
 told : (x k : ℕ) → eqb (bit x k) 1 ≡ true ↔ BitSet x k
 told x k = ((λ e. is-set k x (eqb-true (bit x k) 1 e)), (λ b. eq-eqb (bit x k) 1 (set-is b)))
 

@@ -49,6 +49,7 @@ fn one(m: &[u8]) {
     lookups(m, refusal);
     let mut sheet = [0u8; 2048];
     print::records(m, &mut sheet);
+    print::profile(m);
     console::word(b"-\n");
 }
 
@@ -65,9 +66,9 @@ fn next() -> bool {
     true
 }
 
-// At most 1,000 messages are read.
+// At most 2,000 messages are read.
 fn main() {
-    let mut left: usize = 1000;
+    let mut left: usize = 2000;
     while left > 0 {
         if !next() {
             break;

@@ -167,6 +167,14 @@ pub fn records(m: &[u8], sheet: &mut [u8]) {
     given(dhcpopt_reader::dhcpopt_records(m, sheet), sheet);
 }
 
+// The line of the reply profile: the rules that are broken, number and place of a refusal.
+pub fn profile(m: &[u8]) {
+    let p = dhcpopt_profile::dhcpopt_profile(m);
+    one(b"profile", p.broken as u64);
+    two(b" refusal", p.refusal as usize, p.place);
+    word(b"\n");
+}
+
 // The place and the bytes of a part, after a name and a code.
 fn shown(name: &[u8], code: u8, e: PlainExtent, bytes: &[u8]) {
     one(name, code as u64);

@@ -5,7 +5,7 @@ use crate::rules::answers::{
     Codes, Content, Listed, Lookup, Origin, Part, Refusal, RollCall, Several, EMPTY,
 };
 use crate::rules::captures::Tally;
-use crate::rules::{groups, index, reading, relay, vendor, writing};
+use crate::rules::{groups, index, profile, reading, relay, vendor, writing};
 use std::slice;
 
 /// status: 0 absent, 1 unknown, 2 refused, 3 a number, 4 a part, 5 broken.
@@ -151,6 +151,24 @@ impl Address {
     }
 }
 
+/// broken: the rules of the reply profile that are broken, bits 0 to 7.
+#[repr(C)]
+#[derive(Clone, Copy, PartialEq, Eq, Debug, Default)]
+pub struct Profiled {
+    pub broken: u32,
+    pub refusal: u32,
+    pub place: usize,
+}
+
+impl From<Result<u32, Refusal>> for Profiled {
+    fn from(result: Result<u32, Refusal>) -> Profiled {
+        match result {
+            Ok(broken) => Profiled { broken, ..Profiled::default() },
+            Err(r) => Profiled { broken: 0, refusal: r.number, place: r.place },
+        }
+    }
+}
+
 impl From<Result<RollCall, Refusal>> for Present {
     fn from(result: Result<RollCall, Refusal>) -> Present {
         match result {
@@ -289,6 +307,13 @@ pub unsafe extern "C" fn independent_text(
 #[no_mangle]
 pub unsafe extern "C" fn independent_address_step(list: *const u8, n: usize, at: usize) -> Address {
     Address::of_step(reading::address_step(lent(list, n), at), at)
+}
+
+/// # Safety
+/// `m` points to `n` readable bytes.
+#[no_mangle]
+pub unsafe extern "C" fn independent_profile(m: *const u8, n: usize) -> Profiled {
+    profile::profile(lent(m, n)).into()
 }
 
 /// # Safety

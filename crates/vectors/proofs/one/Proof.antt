@@ -34,6 +34,9 @@ slice-aggregate-records c = search needs
 records-requires : tie.Need-records-requires
 records-requires c κs = search needs
 
+profile-requires : tie.Need-profile-requires
+profile-requires c κs = search needs
+
 slice-aggregate-word-2 : tie.Need-slice-aggregate-word-2
 slice-aggregate-word-2 c = search needs
 
@@ -56,6 +59,7 @@ one-spec =
     lookups-requires
     slice-aggregate-records
     records-requires
+    profile-requires
     slice-aggregate-word-2
     word-requires-2
     returns)

@@ -1,6 +1,7 @@
 //! The rules of document 01: what is answered, the kinds, reading, writing;
 //! of request 05: vendor information; of request 07: an index; of request 08: grouped
-//! sheets; of request 09: relay information; and of request 11: captures.
+//! sheets; of request 09: relay information; of request 11: captures; and of request 13: the
+//! reply profile.
 
 #![forbid(unsafe_code)]
 
@@ -9,6 +10,7 @@ pub mod captures;
 pub mod groups;
 pub mod index;
 pub mod kinds;
+pub mod profile;
 pub mod reading;
 pub mod relay;
 pub mod vendor;

@@ -5,7 +5,7 @@
 use super::compare::Run;
 use super::library::library;
 use super::sides::{independent_rules, own_exports, yardstick, Subject, Yardstick};
-use independent::boundary::{self, Answer, Extent, Filled, Present, Relay, Wrote};
+use independent::boundary::{self, Answer, Extent, Filled, Present, Profiled, Relay, Wrote};
 use std::panic;
 
 include!(concat!(env!("OUT_DIR"), "/variants.rs"));
@@ -24,6 +24,7 @@ pub fn run() -> i32 {
     }
     let mut subjects = subjects();
     subjects.extend(relay_subjects());
+    subjects.extend(profile_subjects());
     panic::set_hook(Box::new(|_| ()));
     for &(name, rules) in &VARIANTS {
         failed += usize::from(!told("variant", name, library(), rules));
@@ -122,6 +123,34 @@ fn subjects() -> Vec<(&'static str, Subject)> {
         ("19 with a field", Subject { index_lookup: through_refused, ..own }),
         ("a number by an index without its field", Subject { index_lookup: through_number, ..own }),
     ]
+}
+
+/// The same, of request 13.
+fn profile_subjects() -> Vec<(&'static str, Subject)> {
+    let own = own_exports();
+    vec![
+        ("a refused profile with a set", Subject { profile: refused_set, ..own }),
+        ("a profile with a place", Subject { profile: profile_placed, ..own }),
+        ("a profile that changes the message", Subject { profile: profile_changes, ..own }),
+    ]
+}
+
+unsafe extern "C" fn refused_set(m: *const u8, n: usize) -> Profiled {
+    let profiled = boundary::independent_profile(m, n);
+    Profiled { broken: if profiled.refusal == 25 { 255 } else { profiled.broken }, ..profiled }
+}
+
+unsafe extern "C" fn profile_placed(m: *const u8, n: usize) -> Profiled {
+    let profiled = boundary::independent_profile(m, n);
+    Profiled { place: if profiled.broken == 128 { 240 } else { profiled.place }, ..profiled }
+}
+
+unsafe extern "C" fn profile_changes(m: *const u8, n: usize) -> Profiled {
+    let profiled = boundary::independent_profile(m, n);
+    if profiled.refusal == 0 {
+        *m.cast_mut() ^= 1;
+    }
+    profiled
 }
 
 /// The same, of request 09.

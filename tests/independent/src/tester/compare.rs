@@ -319,6 +319,9 @@ impl Run {
         let ours = (self.yardstick.present)(self.input.middle());
         self.counts.present(&theirs);
         self.equal(|| "present".to_string(), &theirs, &ours);
+        let profiled = unsafe { (self.subject.profile)(m, n) };
+        let rules = (self.yardstick.profile)(self.input.middle());
+        self.equal(|| "profile".to_string(), &profiled, &rules);
         theirs.words
     }
 

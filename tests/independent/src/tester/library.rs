@@ -1,7 +1,9 @@
 //! The library under test: three static archives.
 
 use super::sides::Subject;
-use independent::boundary::{Address, Answer, Checked, Extent, Filled, Present, Relay, Wrote};
+use independent::boundary::{
+    Address, Answer, Checked, Extent, Filled, Present, Profiled, Relay, Wrote,
+};
 
 #[link(name = "dhcpopt_reader", kind = "static")]
 extern "C" {
@@ -59,6 +61,11 @@ extern "C" {
     ) -> Answer;
 }
 
+#[link(name = "dhcpopt_profile", kind = "static")]
+extern "C" {
+    fn dhcpopt_profile(m: *const u8, n: usize) -> Profiled;
+}
+
 pub fn library() -> Subject {
     Subject {
         lookup: dhcpopt_lookup,
@@ -67,6 +74,7 @@ pub fn library() -> Subject {
         address_step: dhcpopt_address_step,
         copy: dhcpopt_copy,
         present: dhcpopt_present,
+        profile: dhcpopt_profile,
         records: dhcpopt_records,
         write: dhcpopt_write,
         vendor_records: dhcpopt_vendor_records,

@@ -12,6 +12,7 @@ pub mod library;
 pub mod lines;
 mod messages;
 mod relay;
+mod replies;
 mod rng;
 mod sheets;
 pub mod sides;

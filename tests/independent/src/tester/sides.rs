@@ -1,7 +1,9 @@
 //! The two sides that are compared: the library under test, by its C
 //! functions, and the yardstick, by safe ones.
 
-use independent::boundary::{Address, Answer, Checked, Extent, Filled, Present, Relay, Wrote};
+use independent::boundary::{
+    Address, Answer, Checked, Extent, Filled, Present, Profiled, Relay, Wrote,
+};
 use independent::rules::answers::Codes;
 
 type Asked = unsafe extern "C" fn(*const u8, usize, u64, u64, u64, u64, u8) -> Answer;
@@ -21,6 +23,7 @@ pub struct Subject {
     pub address_step: unsafe extern "C" fn(*const u8, usize, usize) -> Address,
     pub copy: unsafe extern "C" fn(*const u8, usize, u8, *mut u8, usize) -> Filled,
     pub present: unsafe extern "C" fn(*const u8, usize) -> Present,
+    pub profile: unsafe extern "C" fn(*const u8, usize) -> Profiled,
     pub records: unsafe extern "C" fn(*const u8, usize, *mut u8, usize) -> Filled,
     pub write: unsafe extern "C" fn(*const u8, usize, *mut u8, usize, u8) -> Wrote,
     pub vendor_records: unsafe extern "C" fn(*const u8, usize, *mut u8, usize) -> Filled,
@@ -44,6 +47,7 @@ pub struct Yardstick {
     pub address_step: fn(&[u8], usize) -> Address,
     pub copy: fn(&[u8], u8, &mut [u8]) -> Filled,
     pub present: fn(&[u8]) -> Present,
+    pub profile: fn(&[u8]) -> Profiled,
     pub records: fn(&[u8], &mut [u8]) -> Filled,
     pub write: fn(&[u8], &mut [u8], u8) -> Wrote,
     pub vendor_records: fn(&[u8], &mut [u8]) -> Filled,
@@ -71,6 +75,7 @@ macro_rules! yardstick {
             },
             copy: |m, code, buffer| $($rules)::+::reading::copy(m, code, buffer).into(),
             present: |m| $($rules)::+::reading::present(m).into(),
+            profile: |m| $($rules)::+::profile::profile(m).into(),
             records: |m, sheet| $($rules)::+::reading::records(m, sheet).into(),
             write: |sheet, m, permission| {
                 $($rules)::+::writing::write(sheet, m, permission).into()
@@ -107,6 +112,7 @@ pub fn own_exports() -> Subject {
         address_step: independent_address_step,
         copy: independent_copy,
         present: independent_present,
+        profile: independent_profile,
         records: independent_records,
         write: independent_write,
         vendor_records: independent_vendor_records,

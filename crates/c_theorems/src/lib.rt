@@ -8,6 +8,7 @@ ghost use Rattle.c_theorems.specs.Refusals.{LookupRefusedForC, IndexLook
 ghost use Rattle.c_theorems.specs.Refusals.{WriteRefusedForC, NoRoomForC, VendorWriteRefusedForC, CheckRefusedForC, ChooseRefusedForC, GroupRefusedForC, UngroupRefusedForC, ProfileRefusedForC};
 ghost use Rattle.c_theorems.specs.Answers.{LookupForC, AbsentForC, IndexLookupForC, DataForC, CopyForC, PresentForC, AddressesForC, ProfileForC, SameNamedForC};
 ghost use Rattle.c_theorems.specs.Sheets.{SheetBackForC, Demand3ForC, OthersForC};
+ghost use Rattle.c_theorems.specs.RelayRefusals.{RelayRecordsRefusedForC, RelayWriteRefusedForC, RelayRefusedBy, RelayWriteRow};
 ghost use Rattle.options.specs.ReadingClaims.{IsAccepted};
 ghost use Rattle.options.specs.GroupedFile.{FirstOf};
 ghost use Rattle.options.specs.GroupedClaims.{ChoiceRow, MoveRow, BackRow};
@@ -19,13 +20,14 @@ use dhcpopt_profile::PlainProfile;
 use dhcpopt_reader::PlainAnswer;
 use dhcpopt_reader::PlainCodes;
 use dhcpopt_reader::PlainExtent;
+use dhcpopt_reader::PlainRelay;
 use dhcpopt_writer::PlainWrote;
 use filled::PlainFilled;
 use groups::PlainChecked;
 
 // Demand 1, of the calls that read and of those that write; then demands 2 and 3.
 pub fn proved()
-    ensures { λ _. ⌜ LookupRefusedForC × IndexLookupRefusedForC × DataRefusedForC × TextRefusedForC × PresentRefusedForC × RecordsRefusedForC × CopyRefusedForC × VendorRecordsRefusedForC × BuildRefusedForC × WriteRefusedForC × NoRoomForC × VendorWriteRefusedForC × CheckRefusedForC × ChooseRefusedForC × GroupRefusedForC × UngroupRefusedForC × LookupForC × AbsentForC × IndexLookupForC × DataForC × CopyForC × PresentForC × AddressesForC × ProfileRefusedForC × ProfileForC × SameNamedForC × SheetBackForC × Demand3ForC × OthersForC ⌝ }
+    ensures { λ _. ⌜ LookupRefusedForC × IndexLookupRefusedForC × DataRefusedForC × TextRefusedForC × PresentRefusedForC × RecordsRefusedForC × CopyRefusedForC × VendorRecordsRefusedForC × BuildRefusedForC × WriteRefusedForC × NoRoomForC × VendorWriteRefusedForC × CheckRefusedForC × ChooseRefusedForC × GroupRefusedForC × UngroupRefusedForC × RelayRecordsRefusedForC × RelayWriteRefusedForC × LookupForC × AbsentForC × IndexLookupForC × DataForC × CopyForC × PresentForC × AddressesForC × ProfileRefusedForC × ProfileForC × SameNamedForC × SheetBackForC × Demand3ForC × OthersForC ⌝ }
 {}
 
 // ---- The calls themselves: each is called here, and what its contract gives is what the statements above speak of.
@@ -132,4 +134,16 @@ pub fn profile_call(m: &[u8]) -> PlainProfile
     ensures { λ r. ⌜ ProfileRefusedBy (now (m .entry)) r × (IsAccepted (now (m .entry)) → Reply (now (m .entry)) → ProfileToldRight (now (m .entry)) r) ⌝ }
 {
     dhcpopt_profile::dhcpopt_profile(m)
+}
+
+pub fn relay_records_call(bytes: &[u8], out: &mut [u8]) -> PlainRelay
+    ensures { λ r. ⌜ RelayRefusedBy (now (bytes .entry)) (now (out .entry)) r (now (out .exit)) ⌝ }
+{
+    dhcpopt_reader::dhcpopt_relay_records(bytes, out)
+}
+
+pub fn relay_write_call(s: &[u8], out: &mut [u8]) -> PlainFilled
+    ensures { λ r. ⌜ FillRefused (RelayWriteRow (now (s .entry)) (now (out .entry))) (now (out .entry)) r (now (out .exit)) ⌝ }
+{
+    dhcpopt_writer::dhcpopt_relay_write(s, out)
 }

@@ -260,10 +260,12 @@ pub extern "C" fn dhcpopt_index_lookup(
     if entry == 0 {
         return dhcpopt_reader::of_refusal(0, 0, 0);
     }
+    // Before the next test: else the compiler makes one chain of both, and asks for 65,535 first.
+    let place = entry as usize;
+    let span = span_at(m.len(), place);
     if entry == 65535 {
         let a = dhcpopt_reader::dhcpopt_lookup(&m[..], k0, k1, k2, k3, code);
         return a;
     }
-    let place = entry as usize;
-    at_entry(m, span_at(m.len(), place), [k0, k1, k2, k3], code, place)
+    at_entry(m, span, [k0, k1, k2, k3], code, place)
 }

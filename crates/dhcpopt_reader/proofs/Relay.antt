@@ -16,11 +16,11 @@ use Rattle.filled.specs.Plain.{plainFilled, Kept}
 use Rattle.filled.proofs.Kept.{declined-kept, given-kept}
 use Rattle.theorems.proofs.View.{clash}
 use Rattle.filled.specs.Fill.{givenOf}
-use Rattle.relay.specs.declared.Read.{Read}
-use Rattle.relay.specs.Reads.{ReadAs}
+use Rattle.item_reader.specs.declared.Read.{Read}
+use Rattle.item_reader.specs.Reads.{ReadAs}
 use Rattle.dhcpopt_reader.specs.declared.PlainRelay.{PlainRelay}
-use Rattle.relay.specs.declared.Id.{Id}
-use Rattle.relay.specs.Walked.{idAs}
+use Rattle.item_reader.specs.declared.Id.{Id}
+use Rattle.item_reader.specs.Walked.{idAs}
 use Rattle.dhcpopt_reader.specs.declared.PlainId.{PlainId}
 use Rattle.dhcpopt_reader.specs.Relay.{plainId, plainRelay, RelayIsByCase, AbsentIffNoStart, RelayKept}
 

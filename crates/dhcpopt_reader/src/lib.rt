@@ -358,7 +358,7 @@ pub extern "C" fn dhcpopt_copy(m: &[u8], code: u8, out: &mut [u8]) -> PlainFille
 pub extern "C" fn dhcpopt_vendor_records(bytes: &[u8], out: &mut [u8]) -> PlainFilled
     ensures { λ r. ⌜ (r ≡ plainFilled (vendorRecords (now (bytes .entry)) (now (out .entry)) .answer)) × (now (out .exit) ≡ vendorRecords (now (bytes .entry)) (now (out .entry)) .buffer) ⌝ }
 {
-    filled::plain(vendor::records(bytes, out))
+    filled::plain(item_reader::vendor_records(bytes, out))
 }
 
 // The sub-options of the bytes of an option 82, each as a record in the buffer out, and circuit id and remote id (document 02, request 09).
@@ -366,7 +366,7 @@ pub extern "C" fn dhcpopt_vendor_records(bytes: &[u8], out: &mut [u8]) -> PlainF
 pub extern "C" fn dhcpopt_relay_records(bytes: &[u8], out: &mut [u8]) -> PlainRelay
     ensures { λ r. ⌜ (r ≡ plainRelay (relayRecords (now (bytes .entry)) (now (out .entry)))) × (now (out .exit) ≡ relayRecords (now (bytes .entry)) (now (out .entry)) .filled .buffer) ⌝ }
 {
-    let x = relay::records(bytes, out);
+    let x = item_reader::relay_records(bytes, out);
     let given = x.given;
     let g = filled::plain(given);
     PlainRelay {

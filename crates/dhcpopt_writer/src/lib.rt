@@ -56,7 +56,7 @@ pub extern "C" fn dhcpopt_write(s: &[u8], m: &mut [u8], permission: u8) -> Plain
 pub extern "C" fn dhcpopt_vendor_write(s: &[u8], out: &mut [u8]) -> PlainFilled
     ensures { λ r. ⌜ (r ≡ plainFilled (vendorWrite (now (s .entry)) (now (out .entry)) .answer)) × (now (out .exit) ≡ vendorWrite (now (s .entry)) (now (out .entry)) .buffer) ⌝ }
 {
-    filled::plain(vendor_writer::write(s, out))
+    filled::plain(item_writer::vendor_write(s, out))
 }
 
 // The sub-options of the records of a sheet, in the buffer out: what an option 82 is to hold (document 02, request 09).
@@ -64,7 +64,7 @@ pub extern "C" fn dhcpopt_vendor_write(s: &[u8], out: &mut [u8]) -> PlainFilled
 pub extern "C" fn dhcpopt_relay_write(s: &[u8], out: &mut [u8]) -> PlainFilled
     ensures { λ r. ⌜ (r ≡ plainFilled (relayWrite (now (s .entry)) (now (out .entry)) .answer)) × (now (out .exit) ≡ relayWrite (now (s .entry)) (now (out .entry)) .buffer) ⌝ }
 {
-    filled::plain(relay_writer::write(s, out))
+    filled::plain(item_writer::relay_write(s, out))
 }
 
 // Checks a grouped file (document 02, request 08).

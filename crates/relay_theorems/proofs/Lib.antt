@@ -5,6 +5,8 @@ pub mod Subs
 pub mod Ids
 pub mod Reading
 pub mod Row
+pub mod Rowless
+pub mod Alike
 -- Writing: the rows, what is given, that it comes back and keeps the row
 pub mod Rows
 pub mod Writing

@@ -107,23 +107,23 @@ returns-5 c =
     let a = s .args in
     c .of-refusal4 .ensures ∙ plain s (entered w ∙ of-nothing (set s) (a .m .now) (a .code) (getD (a .index .now) (w .wide .result) 0) (t .if5 .taken))
 
+cast-place : tie.Need-cast-place
+cast-place c = record { fits = omega (arith, entry-fits (c .before)) }
+
+span-at-requires : tie.Need-span-at-requires
+span-at-requires c κs = search needs
+
 dhcpopt-lookup-requires-2 : tie.Need-dhcpopt-lookup-requires-2
 dhcpopt-lookup-requires-2 c κs = search needs
 
 returns-6 : tie.Need-returns-6
 returns-6 c =
     let t = c .before in
-    let n = t .before in
+    let n = t .before .before in
     let w = n .before .before in
     let s = w .before .before .before .before .before .before .before .before in
     let a = s .args in
     c .dhcpopt-lookup2 .ensures ∙ plain s (entered w ∙ of-pieces (set s) (a .m .now) (a .code) (getD (a .index .now) (w .wide .result) 0) (n .if5 .left) (t .if6 .taken))
-
-cast-place : tie.Need-cast-place
-cast-place c = record { fits = omega (arith, entry-fits (c .before .before)) }
-
-span-at-requires : tie.Need-span-at-requires
-span-at-requires c κs = search needs
 
 at-entry-requires : tie.Need-at-entry-requires
 at-entry-requires c κs =
@@ -131,12 +131,12 @@ at-entry-requires c κs =
     let l = k .before .before .before in
     let u = l .before in
     let s = u .before .before .before .before .before in
-    (fit-length (s .args .m .now) (sym (u .unfit .ensures) ∙ l .if3 .left) .0, omega (arith, entry-fits k), c .span-at .ensures)
+    (fit-length (s .args .m .now) (sym (u .unfit .ensures) ∙ l .if3 .left) .0, omega (arith, entry-fits k), c .before .span-at .ensures)
 
 returns-7 : tie.Need-returns-7
 returns-7 c =
-    let p = c .before .before in
-    let n = p .before in
+    let p = c .before in
+    let n = p .before .before in
     let w = n .before .before in
     let s = w .before .before .before .before .before .before .before .before in
     let a = s .args in
@@ -160,9 +160,9 @@ dhcpopt-index-lookup-spec =
     shared-slice-read-entry
     of-refusal-requires-4
     returns-5
-    dhcpopt-lookup-requires-2
-    returns-6
     cast-place
     span-at-requires
+    dhcpopt-lookup-requires-2
+    returns-6
     at-entry-requires
     returns-7)

@@ -4,8 +4,8 @@ use Rattle.dhcpopt_reader.proofs.Relay.{plain-read}
 use Rattle.dhcpopt_reader.proofs.dhcpopt_relay_records.Statement.{statement}
 use Rattle.dhcpopt_reader.proofs.dhcpopt_relay_records.Tie as tie
 
-records-requires : tie.Need-records-requires
-records-requires c κs = search needs
+relay-records-requires : tie.Need-relay-records-requires
+relay-records-requires c κs = search needs
 
 plain-requires : tie.Need-plain-requires
 plain-requires c κs = search needs
@@ -16,7 +16,7 @@ same-length c = search needs
 returns : tie.Need-returns
 returns c =
     let w = c .before .before .before in
-    (plain-read _ (w .records .result) _ (c .plain .result) (w .records .ensures) (c .plain .ensures), w .records .ensures .fills .buffer)
+    (plain-read _ (w .relay-records .result) _ (c .plain .result) (w .relay-records .ensures) (c .plain .ensures), w .relay-records .ensures .fills .buffer)
 
 pub dhcpopt-relay-records-spec : {M : Type 1} → statement M
-dhcpopt-relay-records-spec = tie.close (tie.spec records-requires plain-requires same-length returns)
+dhcpopt-relay-records-spec = tie.close (tie.spec relay-records-requires plain-requires same-length returns)

@@ -1,0 +1,4 @@
+pub mod Ruled
+pub mod Judging
+pub mod Putting
+pub mod Outcomes

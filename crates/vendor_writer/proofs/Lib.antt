@@ -1,3 +1,0 @@
-pub mod Judging
-pub mod Putting
-pub mod Outcomes

@@ -7,6 +7,7 @@ use std::{env, fs, path::Path};
 include!("build/variants.rs");
 include!("build/relay_variants.rs");
 include!("build/profile_variants.rs");
+include!("build/captures_variants.rs");
 
 /// The files of src/rules that are copied, each with those it is used by.
 const FILES: [(&str, &[&str]); 8] = [
@@ -33,7 +34,7 @@ fn link() {
     let package = env::var("CARGO_MANIFEST_DIR").unwrap();
     let archives = format!("{package}/../../target/staticlib");
     println!("cargo:rustc-link-search=native={archives}");
-    for name in ["reader", "index", "profile", "writer"] {
+    for name in ["reader", "index", "profile", "writer", "captures"] {
         println!("cargo:rerun-if-changed={archives}/libdhcpopt_{name}.a");
     }
 }
@@ -60,6 +61,21 @@ fn variants() -> String {
     }
     let count = all().count();
     writeln!(text, "pub static VARIANTS: [(&str, Yardstick); {count}] = [\n{list}];").unwrap();
+    text + &captures_variants()
+}
+
+/// The same of request 11, whose rules are a file of their own.
+fn captures_variants() -> String {
+    let mut text = String::new();
+    let mut list = String::new();
+    for (i, variant) in CAPTURES_VARIANTS.iter().enumerate() {
+        writeln!(text, "#[allow(warnings, clippy::all)]\nmod captures_variant_{i} {{").unwrap();
+        writeln!(text, "pub use independent::rules::reading;").unwrap();
+        writeln!(text, "pub mod captures {{\n{}}}\n}}", edited(variant, "captures.rs")).unwrap();
+        writeln!(list, "    ({:?}, tally_of!(captures_variant_{i})),", variant.name).unwrap();
+    }
+    let count = CAPTURES_VARIANTS.len();
+    writeln!(text, "pub static TALLIES: [(&str, TallyOf); {count}] = [\n{list}];").unwrap();
     text
 }
 

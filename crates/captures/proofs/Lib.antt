@@ -3,3 +3,4 @@ pub mod Stages
 pub mod Keeping
 pub mod Runs
 pub mod Beginning
+pub mod States

@@ -9,11 +9,9 @@ use lib.Dec.{eqb, ltb}
 use borrow.Author.Tests.{eqb-true, ltb-true}
 use lib.ListN.{length, getD, take, drop, length-take, length-drop}
 use lib.Seq.{take-all, take-nil, length-take-le}
-use Rattle.options.specs.KindClaims.{AllBytes}
 use Rattle.options.specs.Captures.{mostMessages}
-use Rattle.theorems.proofs.CodesPresent.{all-take}
 use Rattle.captures.specs.declared.Progress.{Progress}
-use Rattle.captures.specs.Standing.{Takes, Whole, Fitting}
+use Rattle.captures.specs.Standing.{tidied, Takes, Feeds, Whole, Fitting}
 use Rattle.captures.proofs.Stages.{takes-then, takes-none}
 
 one-byte : (xs : List ℕ) → length xs ≡ 1 → xs ≡ getD xs 0 0 ∷ []
@@ -102,19 +100,20 @@ pub feeding-first : (part : List ℕ) (p : Progress) (m v h b : List ℕ) → Fe
 feeding-first part p m v h b =
     record { at-in = omega arith; message-long = refl; verdicts-long = refl; held-long = refl; bytes-long = refl; taken = takes-none {p = p} {m = m} {v = v} {h = h} {b = b} }
 
-pub feeding-more : {part : List ℕ} {p : Progress} {m₀ v₀ h₀ b₀ : List ℕ} {q : Progress} {m v h b : List ℕ} {i : ℕ} → AllBytes part → Feeding part p m₀ v₀ h₀ b₀ q m v h b i → (e : ℕ) → i ≤ e → e ≤ length part
+pub feeding-more : {part : List ℕ} {p : Progress} {m₀ v₀ h₀ b₀ : List ℕ} {q : Progress} {m v h b : List ℕ} {i : ℕ} → Feeding part p m₀ v₀ h₀ b₀ q m v h b i → (e : ℕ) → i ≤ e → e ≤ length part
     → (r : Progress) (m′ v′ h′ b′ : List ℕ) → length m′ ≡ length m → length v′ ≡ length v → length h′ ≡ length h → length b′ ≡ length b
     → Takes (take (e - i) (drop i part)) q m v h b r m′ v′ h′ b′ → Feeding part p m₀ v₀ h₀ b₀ r m′ v′ h′ b′ e
-feeding-more {part} {p} {m₀} {v₀} {h₀} {b₀} {q} {m} {v} {h} {b} {i} all s e l k r m′ v′ h′ b′ am av ah ab t =
+feeding-more {part} {p} {m₀} {v₀} {h₀} {b₀} {q} {m} {v} {h} {b} {i} s e l k r m′ v′ h′ b′ am av ah ab t =
     record {
       at-in = k;
       message-long = am ∙ s .message-long;
       verdicts-long = av ∙ s .verdicts-long;
       held-long = ah ∙ s .held-long;
       bytes-long = ab ∙ s .bytes-long;
-      taken = subst (λ (xs : List ℕ). Takes xs p m₀ v₀ h₀ b₀ r m′ v′ h′ b′) (sym (take-run i e part l)) (takes-then (take i part) (take (e - i) (drop i part)) (all-take i part all) (s .taken) t);
+      taken = subst (λ (xs : List ℕ). Takes xs p m₀ v₀ h₀ b₀ r m′ v′ h′ b′) (sym (take-run i e part l)) (takes-then (take i part) (take (e - i) (drop i part)) (s .taken) t);
     }
 
-pub feeding-done : {part : List ℕ} {p : Progress} {m₀ v₀ h₀ b₀ : List ℕ} {q : Progress} {m v h b : List ℕ} {i : ℕ} → Feeding part p m₀ v₀ h₀ b₀ q m v h b i → length part ≤ i
-    → Takes part p m₀ v₀ h₀ b₀ q m v h b
-feeding-done {part} {p} {m₀} {v₀} {h₀} {b₀} {q} {m} {v} {h} {b} {i} s l = subst (λ (xs : List ℕ). Takes xs p m₀ v₀ h₀ b₀ q m v h b) (take-all i part l) (s .taken)
+pub feeding-done : {part : List ℕ} {q₀ : Progress} {m₀ v₀ h₀ b₀ : List ℕ} {q : Progress} {m v h b : List ℕ} {i : ℕ} → Feeding part q₀ m₀ v₀ h₀ b₀ q m v h b i → length part ≤ i → (p : Progress)
+    → q₀ ≡ tidied p → Feeds part p m₀ v₀ h₀ b₀ q m v h b
+feeding-done {part} {q₀} {m₀} {v₀} {h₀} {b₀} {q} {m} {v} {h} {b} {i} s l p e =
+    subst (λ (y : Progress). Takes part y m₀ v₀ h₀ b₀ q m v h b) e (subst (λ (xs : List ℕ). Takes xs q₀ m₀ v₀ h₀ b₀ q m v h b) (take-all i part l) (s .taken))

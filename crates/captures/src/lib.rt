@@ -7,7 +7,8 @@ ghost use Prim.Native.Nat.{ℕ, _+_, _≤_, _<_, min};
 ghost use lib.Dec.{eqb, ltb};
 ghost use lib.ListN.{length, take};
 ghost use Rattle.options.specs.Captures.{mostMessages};
-ghost use Rattle.captures.specs.Standing.{Begins, Takes, Behind, NotesKept, Closes, Whole, Fitting, Keeps};
+ghost use Rattle.tally.specs.Noted.{leaseOf, leaseIn};
+ghost use Rattle.captures.specs.Standing.{tidied as tidy, EveryStateStands, StandingIsTidy, NeverWraps, noneRead, BegunEmpty, Takes, Feeds, behindOf, NotesKept, Closes, Whole, Fitting, Keeps};
 use tally::Lease;
 use tally::Time;
 
@@ -56,7 +57,7 @@ fn in_message(p: Progress, size: usize, read: usize) -> Progress
 
 // Behind a message of `size` bytes with this lease time: the next record begins there.
 fn behind(p: Progress, size: usize, t: Time) -> Progress
-    ensures { λ r. ⌜ Behind p size t r ⌝ }
+    ensures { λ r. ⌜ r ≡ behindOf p size t ⌝ }
 {
     let before = p.lease;
     let lease = tally::widen(before, t);
@@ -251,7 +252,7 @@ fn run_length(p: Progress, rest: &[u8]) -> usize
 
 // Nothing was read yet. The lent numbers are to be zeros.
 pub fn begin() -> Progress
-    ensures { λ r. ⌜ Begins r ⌝ }
+    ensures { λ r. ⌜ r ≡ noneRead ⌝ }
 {
     Progress {
         began: 0,
@@ -268,19 +269,72 @@ pub fn begin() -> Progress
     }
 }
 
-// Takes the next part of the file. verdicts: eight numbers, the messages accepted and those refused by 1 to 7; held and bytes: 256 numbers each, by code; message: a
-// buffer of 1,472 bytes or more.
+fn tidied_lease(l: Lease) -> Lease
+    ensures { λ r. ⌜ r ≡ leaseIn (leaseOf l) ⌝ }
+{
+    if l.any {
+        return l;
+    }
+    Lease {
+        any: false,
+        smallest: 0,
+        largest: 0,
+    }
+}
+
+fn tidied_stage(stage: u32) -> u32
+    ensures { λ r. ⌜ r ≡ min stage 3 ⌝ }
+{
+    if stage < 3 { stage } else { 3 }
+}
+
+fn tidied_high(stage: u32, high: u8) -> u8
+    ensures { λ r. ⌜ r ≡ cond (eqb stage 2) high 0 ⌝ }
+{
+    if stage == 2 { high } else { 0 }
+}
+
+// A caller may lend any Progress: here it gets the form that the calls give, and no test of it is needed again.
+fn tidied(p: Progress) -> Progress
+    ensures { λ r. ⌜ r ≡ tidy p ⌝ }
+{
+    let l = p.lease;
+    let lease = tidied_lease(l);
+    if p.read < p.size {
+        return Progress {
+            began: p.began,
+            stage: 0,
+            high: 0,
+            size: p.size,
+            read: p.read,
+            messages: p.messages,
+            lease,
+        };
+    }
+    Progress {
+        began: p.began,
+        stage: tidied_stage(p.stage),
+        high: tidied_high(p.stage, p.high),
+        size: 0,
+        read: 0,
+        messages: p.messages,
+        lease,
+    }
+}
+
+// Takes the next part of the file. verdicts: the messages accepted and those refused by 1 to 7; held and bytes: by code; message: what was read of a message that
+// came in parts. Any numbers may be lent: they are those of the messages before.
 pub fn feed(
     part: &[u8],
     p: Progress,
-    message: &mut [u8],
-    verdicts: &mut [u64],
-    held: &mut [u64],
-    bytes: &mut [u64],
+    message: &mut [u8; 1472],
+    verdicts: &mut [u64; 8],
+    held: &mut [u64; 256],
+    bytes: &mut [u64; 256],
 ) -> Progress
-    ensures { λ r. ⌜ Takes (now (part .entry)) p (now (message .entry)) (now (verdicts .entry)) (now (held .entry)) (now (bytes .entry)) r (now (message .exit)) (now (verdicts .exit)) (now (held .exit)) (now (bytes .exit)) ⌝ }
+    ensures { λ r. ⌜ Feeds (now (part .entry)) p (now (message .entry)) (now (verdicts .entry)) (now (held .entry)) (now (bytes .entry)) r (now (message .exit)) (now (verdicts .exit)) (now (held .exit)) (now (bytes .exit)) ⌝ }
 {
-    let mut q = p;
+    let mut q = tidied(p);
     let mut i: usize = 0;
     while i < part.len() {
         let e = i + run_length(q, &part[i..]);
@@ -289,3 +343,8 @@ pub fn feed(
     }
     q
 }
+
+// What the contracts rest on holds.
+pub fn proved()
+    ensures { λ _. ⌜ BegunEmpty × EveryStateStands × StandingIsTidy × NeverWraps ⌝ }
+{}

@@ -2,9 +2,9 @@
 ghost use mathlib.Core.Path.{_≡_};
 ghost use Prim.Native.Nat.{_≤_};
 ghost use lib.ListN.{length};
-ghost use Rattle.captures.specs.Standing.{Takes};
 ghost use Rattle.report.specs.Printed.{Reports};
-ghost use Rattle.dhcpopt_captures.specs.Plain.{progressOf, BeginsWith};
+ghost use Rattle.dhcpopt_captures.specs.Plain.{progressOf, plainOf, BeginsWith, FeedsPlain};
+ghost use Rattle.dhcpopt_captures.specs.Told.{BegunForC, FedForC, ProgressByCase, CapturesRefusedForC, CapturesReportedForC};
 use captures::Progress;
 use tally::Lease;
 
@@ -57,7 +57,7 @@ fn plain_with(p: Progress, l: Lease, leases: u32) -> PlainProgress
 }
 
 fn plain(p: Progress) -> PlainProgress
-    ensures { λ r. ⌜ progressOf r ≡ p ⌝ }
+    ensures { λ r. ⌜ r ≡ plainOf p ⌝ }
 {
     let l = p.lease;
     if l.any {
@@ -65,6 +65,11 @@ fn plain(p: Progress) -> PlainProgress
     }
     plain_with(p, l, 0)
 }
+
+// What the calls' contracts come to, in the numbers of a file.
+pub fn proved()
+    ensures { λ _. ⌜ BegunForC × FedForC × ProgressByCase × CapturesRefusedForC × CapturesReportedForC ⌝ }
+{}
 
 // Begins a tally: the lent numbers become zeros.
 #[no_mangle]
@@ -91,7 +96,7 @@ pub extern "C" fn dhcpopt_captures_feed(
     held: &mut [u64; 256],
     bytes: &mut [u64; 256],
 ) -> PlainProgress
-    ensures { λ r. ⌜ Takes (now (part .entry)) (progressOf p) (now (message .entry)) (now (verdicts .entry)) (now (held .entry)) (now (bytes .entry)) (progressOf r) (now (message .exit)) (now (verdicts .exit)) (now (held .exit)) (now (bytes .exit)) ⌝ }
+    ensures { λ r. ⌜ FeedsPlain (now (part .entry)) p (now (message .entry)) (now (verdicts .entry)) (now (held .entry)) (now (bytes .entry)) r (now (message .exit)) (now (verdicts .exit)) (now (held .exit)) (now (bytes .exit)) ⌝ }
 {
     let q = captures::feed(part, progress_of(p), message, verdicts, held, bytes);
     plain(q)

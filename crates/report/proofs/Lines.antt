@@ -72,13 +72,6 @@ pub no-first : (xs : List ℕ) → length xs ≤ 0 → 0 ≡ getD xs 0 0
 no-first [] h = refl
 no-first (x ∷ xs) h = absurd (omega arith)
 
-pub not-zero : (n : ℕ) → not (eqb n 0) ≡ cond (eqb n 0) false true
-not-zero n = go (eqb n 0)
-  where
-    go : (b : Bool) → not b ≡ cond b false true
-    go true = refl
-    go false = refl
-
 -- ---- Line after line
 
 pub refusals-next : (k : ℕ) (v : List ℕ) → k < length v → refusalsLines k (drop k v) ≡ refusalsLine k (getD v k 0) ++ refusalsLines (k + 1) (drop (k + 1) v)

@@ -1,21 +1,25 @@
 -- THE REPORT AS TEXT, from the numbers that the code holds. Assumes nothing.
 use mathlib.Core.Path.{_≡_}
-use mathlib.Core.Bool.{Bool, true, false, cond}
+use mathlib.Core.Bool.{Bool, true, cond}
 use mathlib.Core.List.{List, [], _∷_, _++_}
 use Prim.Native.Nat.{ℕ}
 use lib.Dec.{eqb}
 use lib.ListN.{length, getD, drop}
-use Rattle.options.specs.KindClaims.{AllBytes}
 use Rattle.options.specs.Answers.{decimal, blank, newline, acceptedLine, refusedLine}
-use Rattle.options.specs.Captures.{messagesLine, refusalsLines, codeLines, leaseLine, begun, fed, report}
+use Rattle.options.specs.Captures.{messagesLine, refusalsLines, codeLines, leaseLine, Run, begun, fed, report, reportSoFar}
 use Rattle.tally.specs.Noted.{leaseOf}
 use Rattle.captures.specs.declared.Progress.{Progress}
-use Rattle.captures.specs.Standing.{Stands}
+use Rattle.captures.specs.Standing.{isInside, tidied, Stands}
 
--- [H6] where the numbers stand for the running tally of the bytes f: the report of f is put at the front of the buffer, and nothing else is
+-- [H6] whatever the numbers stand for, with any Progress: its report is put at the front of the buffer, and nothing else is
 abbrev pub Reports : Progress → List ℕ → List ℕ → List ℕ → List ℕ → ℕ → List ℕ → Type 0
 Reports p verdicts held bytes old r after =
-    (f message : List ℕ) → AllBytes f → Stands (fed begun f) p message verdicts held bytes → (r ≡ length (report f)) × (after ≡ report f ++ drop (length (report f)) old)
+    (s : Run) (message : List ℕ) → Stands s (tidied p) message verdicts held bytes
+    → (r ≡ length (reportSoFar s)) × (after ≡ reportSoFar s ++ drop (length (reportSoFar s)) old)
+
+-- and where it is that of a file, the report is the file's
+abbrev pub FileIsReported : Type 0
+FileIsReported = (f : List ℕ) → reportSoFar (fed begun f) ≡ report f
 
 -- ---- Internals
 
@@ -28,7 +32,7 @@ twoText word n k = word ++ (decimal n ++ (blank ∷ (decimal k ++ (newline ∷ [
 
 -- a record is not whole, or was refused
 abbrev pub isOpen : Progress → Bool
-isOpen p = cond (eqb (p .stage) 0) (cond (eqb (p .size) 0) false true) true
+isOpen p = cond (eqb (p .stage) 0) (isInside p) true
 
 abbrev pub lastText : Progress → List ℕ
 lastText p = cond (isOpen p) (refusedLine 24 (p .began)) []

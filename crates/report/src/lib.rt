@@ -8,7 +8,7 @@ ghost use lib.ListN.{length, getD, drop};
 ghost use Rattle.options.specs.Captures.{refusalsLine, refusalsLines, codeLine, codeLines, leaseLine};
 ghost use Rattle.tally.specs.Noted.{leaseOf};
 ghost use Rattle.text.specs.Text.{Puts};
-ghost use Rattle.report.specs.Printed.{oneText, twoText, isOpen, lastText, Reports};
+ghost use Rattle.report.specs.Printed.{oneText, twoText, isOpen, lastText, Reports, FileIsReported};
 use captures::Progress;
 use tally::Lease;
 
@@ -112,7 +112,7 @@ fn is_open(p: Progress) -> bool
     if p.stage != 0 {
         return true;
     }
-    p.size != 0
+    p.read < p.size
 }
 
 // The refusal of the file, where a record is not whole or was refused.
@@ -134,12 +134,12 @@ fn first(numbers: &[u64]) -> u64
     numbers[0]
 }
 
-// Writes the report of what was read at the front of a buffer, and gives its length. No report is longer than the buffer.
+// Writes the report of what was read at the front of a buffer, and gives its length. No report is longer than the buffer, whatever the numbers are.
 pub fn report(
     p: Progress,
-    verdicts: &[u64],
-    held: &[u64],
-    bytes: &[u64],
+    verdicts: &[u64; 8],
+    held: &[u64; 256],
+    bytes: &[u64; 256],
     out: &mut [u8; 16384],
 ) -> usize
     ensures size { λ r. ⌜ r ≤ length (now (out .exit)) ⌝ }
@@ -152,3 +152,8 @@ pub fn report(
     let e = put_lease(out, d, p.lease);
     put_last(out, e, p)
 }
+
+// What the contract rests on holds.
+pub fn proved()
+    ensures { λ _. ⌜ FileIsReported ⌝ }
+{}

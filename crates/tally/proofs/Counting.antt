@@ -32,6 +32,21 @@ stillHeld met os c = cond (taken met c) 0 (oneIfAny (pieces c os))
 abbrev size : List Opt → ℕ → ℕ
 size os c = length (endToEnd (pieces c os))
 
+-- x with n that are still to come makes w, in 64 bits
+pub record Left (x n w : ℕ) : Type 0 where
+  pub small : x < 2 ^ 64
+  pub makes : (x + n) % 2 ^ 64 ≡ w % 2 ^ 64
+
+left-same : {x n k w : ℕ} → Left x n w → n ≡ k → Left x k w
+left-same l e = record { small = l .small; makes = omega (arith, l .makes, e) }
+
+-- n of them come
+left-less : (n : ℕ) {x y a k w : ℕ} → Left x a w → a ≡ n + k → y ≡ (x + n) % 2 ^ 64 → Left y k w
+left-less n l e q = record { small = omega (arith, q); makes = omega (arith, l .makes, e, q) }
+
+left-none : {x n w : ℕ} → Left x n w → n ≡ 0 → x ≡ w % 2 ^ 64
+left-none l e = omega (arith, l .small, l .makes, e)
+
 -- what is counted, with the options from the place i on, makes the whole
 pub record Counting (v : ℕ) (m held₀ bytes₀ met held bytes : List ℕ) (i : ℕ) : Type 0 where
   pub stands : Stands v m i
@@ -40,10 +55,8 @@ pub record Counting (v : ℕ) (m held₀ bytes₀ met held bytes : List ℕ) (i 
   pub end-marked : marked met 255 ≡ true
   pub held-long : length held ≡ length held₀
   pub bytes-long : length bytes ≡ length bytes₀
-  pub held-left : (c : ℕ) → c < length held₀ → getD held₀ c 0 + oneIfAny (pieces c (activeOptions v m)) < 2 ^ 64
-      → getD held c 0 + stillHeld met (leftAt v m i) c ≡ getD held₀ c 0 + oneIfAny (pieces c (activeOptions v m))
-  pub bytes-left : (c : ℕ) → c < length bytes₀ → getD bytes₀ c 0 + size (activeOptions v m) c < 2 ^ 64
-      → getD bytes c 0 + size (leftAt v m i) c ≡ getD bytes₀ c 0 + size (activeOptions v m) c
+  pub held-left : (c : ℕ) → c < length held₀ → getD held₀ c 0 < 2 ^ 64 → Left (getD held c 0) (stillHeld met (leftAt v m i) c) (getD held₀ c 0 + oneIfAny (pieces c (activeOptions v m)))
+  pub bytes-left : (c : ℕ) → c < length bytes₀ → getD bytes₀ c 0 < 2 ^ 64 → Left (getD bytes c 0) (size (leftAt v m i) c) (getD bytes₀ c 0 + size (activeOptions v m) c)
 
 -- ---- pads
 
@@ -92,8 +105,8 @@ counting-begins v m held bytes a =
       end-marked = refl;
       held-long = refl;
       bytes-long = refl;
-      held-left = λ c l b. rw (left-first v m) (ap (λ (t : Bool). getD held c 0 + cond t 0 (oneIfAny (pieces c (activeOptions v m)))) (none-taken c));
-      bytes-left = λ c l b. rw (left-first v m) refl;
+      held-left = λ c l b. record { small = b; makes = rw (left-first v m) (ap (λ (t : Bool). (getD held c 0 + cond t 0 (oneIfAny (pieces c (activeOptions v m)))) % 2 ^ 64) (none-taken c)) };
+      bytes-left = λ c l b. record { small = b; makes = rw (left-first v m) refl };
     }
 
 -- ---- one option: its code and its data
@@ -150,18 +163,17 @@ module _ {v : ℕ} {m held₀ bytes₀ met held bytes : List ℕ} {i : ℕ} (s :
     abbrev os : List Opt
     os = leftAt v m j
 
-    bytes-same : (c : ℕ) → c < length bytes₀ → getD bytes₀ c 0 + size (activeOptions v m) c < 2 ^ 64 → Dec (c ≡ k)
-        → getD bytes′ c 0 + size os c ≡ getD bytes₀ c 0 + size (activeOptions v m) c
-    bytes-same c l u (yes e) =
-        let z : getD bytes c 0 + size (o ∷ os) c ≡ getD bytes₀ c 0 + size (activeOptions v m) c = rw left at (s .bytes-left c l u) in
-        let y = size-here o os c e in
-        let x = only-here k n c e in
-        omega (arith, b .each c (omega (arith, s .bytes-long)) (omega arith))
-    bytes-same c l u (no e) =
-        let z : getD bytes c 0 + size (o ∷ os) c ≡ getD bytes₀ c 0 + size (activeOptions v m) c = rw left at (s .bytes-left c l u) in
-        let y : size (o ∷ os) c ≡ size os c = ap (λ (ps : List Opt). length (endToEnd ps)) (pieces-other o os c e) in
-        let x = only-other k n c e in
-        omega (arith, b .each c (omega (arith, s .bytes-long)) (omega arith))
+    bytes-same : (c : ℕ) → c < length bytes₀ → getD bytes₀ c 0 < 2 ^ 64 → Dec (c ≡ k) → Left (getD bytes′ c 0) (size os c) (getD bytes₀ c 0 + size (activeOptions v m) c)
+    bytes-same c l u d =
+        let z : Left (getD bytes c 0) (size (o ∷ os) c) (getD bytes₀ c 0 + size (activeOptions v m) c) = rw left at (s .bytes-left c l u) in
+        left-less (onlyAt k n c) z (by d) (b .each c (omega (arith, s .bytes-long)) (z .small))
+      where
+        by : Dec (c ≡ k) → size (o ∷ os) c ≡ onlyAt k n c + size os c
+        by (yes e) = let y = size-here o os c e in let x = only-here k n c e in omega arith
+        by (no e) =
+            let y : size (o ∷ os) c ≡ size os c = ap (λ (ps : List Opt). length (endToEnd ps)) (pieces-other o os c e) in
+            let x = only-other k n c e in
+            omega arith
 
     -- a code that was met before
     module _ (f : marked met k ≡ true) (zero-not : k ≡ 0 → ⊥) (end-not : k ≡ 255 → ⊥) where
@@ -171,12 +183,10 @@ module _ {v : ℕ} {m held₀ bytes₀ met held bytes : List ℕ} {i : ℕ} (s :
           rw y refl
       met-same c (no e) = ap (λ (ps : List Opt). cond (taken met c) 0 (oneIfAny ps)) (pieces-other o os c e)
 
-      held-met : (c : ℕ) → c < length held₀ → getD held₀ c 0 + oneIfAny (pieces c (activeOptions v m)) < 2 ^ 64
-          → getD held c 0 + stillHeld met os c ≡ getD held₀ c 0 + oneIfAny (pieces c (activeOptions v m))
+      held-met : (c : ℕ) → c < length held₀ → getD held₀ c 0 < 2 ^ 64 → Left (getD held c 0) (stillHeld met os c) (getD held₀ c 0 + oneIfAny (pieces c (activeOptions v m)))
       held-met c l u =
-          let z : getD held c 0 + stillHeld met (o ∷ os) c ≡ getD held₀ c 0 + oneIfAny (pieces c (activeOptions v m)) = rw left at (s .held-left c l u) in
-          let y = met-same c (ℕ-discrete c k) in
-          omega arith
+          let z : Left (getD held c 0) (stillHeld met (o ∷ os) c) (getD held₀ c 0 + oneIfAny (pieces c (activeOptions v m))) = rw left at (s .held-left c l u) in
+          left-same z (met-same c (ℕ-discrete c k))
 
       pub counting-further : Counting v m held₀ bytes₀ met held bytes′ j
       counting-further =
@@ -196,23 +206,26 @@ module _ {v : ℕ} {m held₀ bytes₀ met held bytes : List ℕ} {i : ℕ} (s :
       word-in : k / 64 < length met
       word-in = omega (arith, s .four, small)
 
-      held-first : (c : ℕ) → c < length held₀ → getD held₀ c 0 + oneIfAny (pieces c (activeOptions v m)) < 2 ^ 64 → Dec (c ≡ k)
-          → getD held′ c 0 + stillHeld (withMark met k) os c ≡ getD held₀ c 0 + oneIfAny (pieces c (activeOptions v m))
-      held-first c l q (yes e) =
-          let z : getD held c 0 + stillHeld met (o ∷ os) c ≡ getD held₀ c 0 + oneIfAny (pieces c (activeOptions v m)) = rw left at (s .held-left c l q) in
+      first-held : (c : ℕ) → Dec (c ≡ k) → stillHeld met (o ∷ os) c ≡ onlyAt k 1 c + stillHeld (withMark met k) os c
+      first-held c (yes e) =
           let f : taken met c ≡ false = ap (taken met) e ∙ taken-code met k (no-pad k u) (no-end k u) ∙ u in
           let y : stillHeld met (o ∷ os) c ≡ 1 = rw f (held-here o os c e) in
           let x = only-here k 1 c e in
           let g : taken (withMark met k) c ≡ true = ap (taken (withMark met k)) e ∙ taken-code (withMark met k) k (no-pad k u) (no-end k u) ∙ mark-same met k word-in in
           let w : stillHeld (withMark met k) os c ≡ 0 = rw g refl in
-          omega (arith, h .each c (omega (arith, s .held-long)) (omega arith))
-      held-first c l q (no e) =
-          let z : getD held c 0 + stillHeld met (o ∷ os) c ≡ getD held₀ c 0 + oneIfAny (pieces c (activeOptions v m)) = rw left at (s .held-left c l q) in
+          omega arith
+      first-held c (no e) =
           let y : stillHeld met (o ∷ os) c ≡ stillHeld met os c = ap (λ (ps : List Opt). cond (taken met c) 0 (oneIfAny ps)) (pieces-other o os c e) in
           let x = only-other k 1 c e in
           let w : stillHeld (withMark met k) os c ≡ stillHeld met os c =
           ap (λ (t : Bool). cond (cond (eqb c 0) false (cond (eqb c 255) false t)) 0 (oneIfAny (pieces c os))) (mark-other met k c word-in e) in
-          omega (arith, h .each c (omega (arith, s .held-long)) (omega arith))
+          omega arith
+
+      held-first : (c : ℕ) → c < length held₀ → getD held₀ c 0 < 2 ^ 64
+          → Left (getD held′ c 0) (stillHeld (withMark met k) os c) (getD held₀ c 0 + oneIfAny (pieces c (activeOptions v m)))
+      held-first c l q =
+          let z : Left (getD held c 0) (stillHeld met (o ∷ os) c) (getD held₀ c 0 + oneIfAny (pieces c (activeOptions v m))) = rw left at (s .held-left c l q) in
+          left-less (onlyAt k 1 c) z (first-held c (ℕ-discrete c k)) (h .each c (omega (arith, s .held-long)) (z .small))
 
       pub counting-first : Counting v m held₀ bytes₀ (withMark met k) held′ bytes′ j
       counting-first =
@@ -223,7 +236,7 @@ module _ {v : ℕ} {m held₀ bytes₀ met held bytes : List ℕ} {i : ℕ} (s :
             end-marked = mark-other met k 255 word-in (λ e. no-end k u (sym e)) ∙ s .end-marked;
             held-long = h .same-length ∙ s .held-long;
             bytes-long = b .same-length ∙ s .bytes-long;
-            held-left = λ c l u. held-first c l u (ℕ-discrete c k);
+            held-left = held-first;
             bytes-left = λ c l u. bytes-same c l u (ℕ-discrete c k);
           }
 
@@ -231,8 +244,8 @@ module _ {v : ℕ} {m held₀ bytes₀ met held bytes : List ℕ} {i : ℕ} (s :
   unfolding pieces endToEnd
   counting-ends e =
       record {
-        held-raised = record { same-length = s .held-long; each = λ c l u. let z = s .held-left c l u in omega (arith, z, none c (taken met c)) };
-        bytes-raised = record { same-length = s .bytes-long; each = λ c l u. let z = s .bytes-left c l u in let y : size (leftAt v m i) c ≡ 0 = rw e refl in omega (arith, z, y) };
+        held-raised = record { same-length = s .held-long; each = λ c l u. left-none (s .held-left c l u) (none c (taken met c)) };
+        bytes-raised = record { same-length = s .bytes-long; each = λ c l u. let y : size (leftAt v m i) c ≡ 0 = rw e refl in left-none (s .bytes-left c l u) y };
       }
     where
       none : (c : ℕ) (t : Bool) → cond t 0 (oneIfAny (pieces c (leftAt v m i))) ≡ 0

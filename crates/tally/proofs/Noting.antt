@@ -17,11 +17,11 @@ use Rattle.message.proofs.Callers.{ScanAccepted, scan-refused, scan-accepted}
 use Rattle.records.specs.FieldRecords.{ActiveEnds}
 use Rattle.records.proofs.AcceptedEnds.{active-ends}
 use Rattle.tally.specs.declared.Time.{Time}
-use Rattle.tally.specs.Noted.{timeOf, Raises, onlyAt, CountsOptions, verdictCount, Lent, Notes, Noted}
+use Rattle.tally.specs.Noted.{timeIn, Raises, onlyAt, CountsOptions, verdictCount, Lent, Notes, Noted}
 use Rattle.tally.proofs.Laws.{raises-none, raises-same}
 
 -- with other numbers nothing is noted
-pub not-lent : (w : Reading) (v h b : List ℕ) (t : Time) → timeOf t ≡ none → (Lent v h b → ⊥) → Noted w v h b t v h b
+pub not-lent : (w : Reading) (v h b : List ℕ) (t : Time) → t ≡ timeIn none → (Lent v h b → ⊥) → Noted w v h b t v h b
 not-lent w v h b t e n = record { if-lent = λ l. absurd (n l); if-not = λ _. (e, refl, refl, refl) }
 
 lent : (w : Reading) (v h b : List ℕ) (t : Time) (v′ h′ b′ : List ℕ) → Lent v h b → Notes w v h b t v′ h′ b′ → Noted w v h b t v′ h′ b′
@@ -37,7 +37,7 @@ only-accepted os zero = refl
 only-accepted os (suc i) = rw (ne-eqb (suc i) 0 (λ e. omega arith))
 
 -- a message refused by n
-pub refused-noted : (n p : ℕ) (v h b : List ℕ) (t : Time) (v′ : List ℕ) → timeOf t ≡ none → (n ≡ 0 → ⊥) → Raises (onlyAt n 1) v v′ → Notes (refused n p) v h b t v′ h b
+pub refused-noted : (n p : ℕ) (v h b : List ℕ) (t : Time) (v′ : List ℕ) → t ≡ timeIn none → (n ≡ 0 → ⊥) → Raises (onlyAt n 1) v v′ → Notes (refused n p) v h b t v′ h b
 refused-noted n p v h b t v′ e z u =
     record {
       verdicts-raised = raises-same _ _ v v′ (λ i. only-refused n p i z) u;
@@ -47,12 +47,12 @@ refused-noted n p v h b t v′ e z u =
     }
 
 module _ (m : List ℕ) (r : Scanned) (s : r ≡ scanOf 51 m) (v h b v′ : List ℕ) (l : Lent v h b) (u : Raises (onlyAt (r .number) 1) v v′) (t : Time) where
-  pub noted-refused : timeOf t ≡ none → (r .number ≡ 0 → ⊥) → Noted (readMessage m) v h b t v′ h b
+  pub noted-refused : t ≡ timeIn none → (r .number ≡ 0 → ⊥) → Noted (readMessage m) v h b t v′ h b
   noted-refused e z =
       lent (readMessage m) v h b t v′ h b l
       (subst (λ (x : Reading). Notes x v h b t v′ h b) (sym (scan-refused 51 m r s z)) (refused-noted (r .number) (r .place) v h b t v′ e z u))
 
-  pub noted-accepted : AllBytes m → r .number ≡ 0 → (h′ b′ : List ℕ) → CountsOptions (activeOptions (r .over) m) h h′ b b′ → timeOf t ≡ leaseTime (readMessage m)
+  pub noted-accepted : AllBytes m → r .number ≡ 0 → (h′ b′ : List ℕ) → CountsOptions (activeOptions (r .over) m) h h′ b b′ → t ≡ timeIn (leaseTime (readMessage m))
       → Noted (readMessage m) v h b t v′ h′ b′
   noted-accepted all z h′ b′ c e =
       let os : List Opt = scan-accepted 51 m r all s z .0 in
@@ -64,7 +64,7 @@ module _ (m : List ℕ) (r : Scanned) (s : r ≡ scanOf 51 m) (v h b v′ : List
         verdicts-raised = raises-same _ _ v v′ (λ i. only-accepted os i) (subst (λ (n : ℕ). Raises (onlyAt n 1) v v′) z u);
         held-raised = counts .held-raised;
         bytes-raised = counts .bytes-raised;
-        time-is = e ∙ ap leaseTime (told .reads);
+        time-is = e ∙ ap (λ (x : Reading). timeIn (leaseTime x)) (told .reads);
       }))
 
 -- every active field of an accepted message has its END

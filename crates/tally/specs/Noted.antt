@@ -1,14 +1,14 @@
 -- WHAT ONE MESSAGE MORE ADDS, in the numbers that the caller lends. Assumes nothing.
 use mathlib.Core.Path.{_≡_}
-use mathlib.Core.Bool.{Bool, cond}
+use mathlib.Core.Bool.{Bool, true, false, cond}
 use mathlib.Core.List.{List, [], _∷_}
 use mathlib.Core.Option.{Option, none, some}
-use Prim.Native.Nat.{ℕ, zero, suc, _+_, _^_, _≤_, _<_}
+use Prim.Native.Nat.{ℕ, zero, suc, _+_, _%_, _^_, _≤_, _<_}
 use lib.Dec.{eqb}
 use lib.ListN.{length, getD}
 use Rattle.options.specs.Message.{Opt, endToEnd}
 use Rattle.options.specs.Reading.{Reading, pieces}
-use Rattle.options.specs.Captures.{ifAccepted, ifRefusedBy, oneIfAny, ifHolds, joinedSize, leaseTime, Lease, noLease, leases}
+use Rattle.options.specs.Captures.{ifAccepted, ifRefusedBy, oneIfAny, ifHolds, joinedSize, leaseTime, widened, Lease, noLease, leases}
 use Rattle.records.specs.Places.{Stands, leftAt, bytesLeft}
 use Rattle.tally.specs.declared.Lease as coded
 use Rattle.tally.specs.declared.Time.{Time}
@@ -17,14 +17,27 @@ use Rattle.tally.specs.declared.Time.{Time}
 abbrev pub leaseOf : coded.Lease → Lease
 leaseOf l = cond (l .any) (leases (l .smallest) (l .largest)) noLease
 
+-- and as it gives them: zeros where there is none
+abbrev pub leaseIn : Lease → coded.Lease
+leaseIn noLease = record { any = false; smallest = 0; largest = 0 }
+leaseIn (leases s l) = record { any = true; smallest = s; largest = l }
+
 -- the lease time of a message
 abbrev pub timeOf : Time → Option ℕ
 timeOf t = cond (t .any) (some (t .seconds)) none
 
--- each number is raised by what f says of its place, wherever the sum is a 64-bit number: NoSumWraps says that it always is
+abbrev pub timeIn : Option ℕ → Time
+timeIn none = record { any = false; seconds = 0 }
+timeIn (some n) = record { any = true; seconds = n }
+
+-- lease times with that of a message; without one they stay as they are, whatever they are
+abbrev pub widenedBy : Time → coded.Lease → coded.Lease
+widenedBy t l = cond (t .any) (leaseIn (widened (timeOf t) (leaseOf l))) l
+
+-- each number, of 64 bits as every one that is lent, is raised by what f says of its place, modulo 2 ^ 64. NoSumWraps says that no number of a file comes near that
 pub record Raises (f : ℕ → ℕ) (xs ys : List ℕ) : Type 0 where
   pub same-length : length ys ≡ length xs
-  pub each : (i : ℕ) → i < length xs → getD xs i 0 + f i < 2 ^ 64 → getD ys i 0 ≡ getD xs i 0 + f i
+  pub each : (i : ℕ) → i < length xs → getD xs i 0 < 2 ^ 64 → getD ys i 0 ≡ (getD xs i 0 + f i) % 2 ^ 64
 
 -- accepted; and refused by n
 abbrev pub verdictCount : Reading → ℕ → ℕ
@@ -36,7 +49,7 @@ pub record Notes (w : Reading) (verdicts held bytes : List ℕ) (t : Time) (verd
   pub verdicts-raised : Raises (verdictCount w) verdicts verdicts′
   pub held-raised : Raises (λ c. ifHolds c w) held held′
   pub bytes-raised : Raises (λ c. joinedSize c w) bytes bytes′
-  pub time-is : timeOf t ≡ leaseTime w
+  pub time-is : t ≡ timeIn (leaseTime w)
 
 -- the numbers that are to be lent: of each verdict, 0 to 7; and twice of each code
 pub record Lent (verdicts held bytes : List ℕ) : Type 0 where
@@ -47,7 +60,7 @@ pub record Lent (verdicts held bytes : List ℕ) : Type 0 where
 -- with other numbers nothing is noted
 pub record Noted (w : Reading) (verdicts held bytes : List ℕ) (t : Time) (verdicts′ held′ bytes′ : List ℕ) : Type 0 where
   pub if-lent : Lent verdicts held bytes → Notes w verdicts held bytes t verdicts′ held′ bytes′
-  pub if-not : (Lent verdicts held bytes → ⊥) → (timeOf t ≡ none) × (verdicts′ ≡ verdicts) × (held′ ≡ held) × (bytes′ ≡ bytes)
+  pub if-not : (Lent verdicts held bytes → ⊥) → (t ≡ timeIn none) × (verdicts′ ≡ verdicts) × (held′ ≡ held) × (bytes′ ≡ bytes)
 
 -- ---- Internals
 

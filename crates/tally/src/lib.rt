@@ -1,8 +1,7 @@
 // The tally of messages (document 02, request 11): what one message more adds to it. The caller lends the numbers.
 ghost use mathlib.Core.Path.{_≡_};
-ghost use mathlib.Core.Bool.{true, false};
 ghost use mathlib.Core.List.{_++_};
-ghost use mathlib.Core.Option.{some};
+ghost use mathlib.Core.Option.{none, some};
 ghost use Prim.Native.Nat.{_+_, _<_, min, max};
 ghost use lib.ListN.{take};
 ghost use Rattle.options.specs.Reading.{readMessage};
@@ -16,7 +15,7 @@ ghost use Rattle.gather.specs.Joined.{joinedFrom};
 ghost use Rattle.lookup.specs.Found.{InPieces};
 ghost use Rattle.records.specs.FieldRecords.{ActiveEnds};
 ghost use Rattle.records.specs.Places.{Stands};
-ghost use Rattle.tally.specs.Noted.{leaseOf, timeOf, Raises, onlyAt, endMarks, Reaches, CountsOptions, Noted};
+ghost use Rattle.tally.specs.Noted.{leaseOf, leaseIn, timeIn, widenedBy, Raises, onlyAt, endMarks, Reaches, CountsOptions, Noted};
 use message::Scanned;
 
 // The smallest and the largest lease time, if there is any.
@@ -32,7 +31,7 @@ pub struct Time {
     pub seconds: u32,
 }
 
-// Raises one of the numbers. With as many messages as are taken none wraps.
+// Raises one of the numbers, if there is one at k; a sum over 64 bits wraps. With as many messages as are taken none does.
 pub fn raise(numbers: &mut [u64], k: usize, n: u64)
     ensures { λ _. ⌜ Raises (onlyAt k n) (now (numbers .entry)) (now (numbers .exit)) ⌝ }
 {
@@ -137,7 +136,7 @@ fn higher(a: u32, b: u32) -> u32
 }
 
 fn with_time(l: Lease, time: u32) -> Lease
-    ensures { λ r. ⌜ leaseOf r ≡ widened (some time) (leaseOf l) ⌝ }
+    ensures { λ r. ⌜ r ≡ leaseIn (widened (some time) (leaseOf l)) ⌝ }
 {
     if !l.any {
         return Lease {
@@ -155,7 +154,7 @@ fn with_time(l: Lease, time: u32) -> Lease
 
 // The lease times with that of one message more.
 pub fn widen(l: Lease, t: Time) -> Lease
-    ensures { λ r. ⌜ leaseOf r ≡ widened (timeOf t) (leaseOf l) ⌝ }
+    ensures { λ r. ⌜ r ≡ widenedBy t l ⌝ }
 {
     if !t.any {
         return l;
@@ -165,7 +164,7 @@ pub fn widen(l: Lease, t: Time) -> Lease
 
 // No lease time.
 pub fn no_time() -> Time
-    ensures { λ r. ⌜ r ≡ record { any = false; seconds = 0 } ⌝ }
+    ensures { λ r. ⌜ r ≡ timeIn none ⌝ }
 {
     Time {
         any: false,
@@ -174,7 +173,7 @@ pub fn no_time() -> Time
 }
 
 fn time_is(seconds: u32) -> Time
-    ensures { λ r. ⌜ r ≡ record { any = true; seconds = seconds } ⌝ }
+    ensures { λ r. ⌜ r ≡ timeIn (some seconds) ⌝ }
 {
     Time { any: true, seconds }
 }
@@ -216,7 +215,7 @@ fn joined_time(m: &[u8], w: Scanned) -> u32
 // The lease time of an accepted message, of which w tells where option 51 stands: it is well-formed where its pieces have four bytes together.
 fn time_in(m: &[u8], w: Scanned) -> Time
     requires { ⌜ (w ≡ scanOf 51 (now m)) × (w .number ≡ 0) ⌝ }
-    ensures { λ r. ⌜ timeOf r ≡ leaseTime (readMessage (now (m .entry))) ⌝ }
+    ensures { λ r. ⌜ r ≡ timeIn (leaseTime (readMessage (now (m .entry)))) ⌝ }
 {
     if w.whole != 4 {
         return no_time();

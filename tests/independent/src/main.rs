@@ -8,7 +8,7 @@ use std::time::Instant;
 use tester::compare::Run;
 use tester::library::library;
 use tester::sides::independent_rules;
-use tester::{broken, captures, edges, lines};
+use tester::{broken, captures, edges, lines, tallies};
 
 const SHORT_SEEDS: [u64; 4] = [1, 2, 3, 4];
 const SHORT_CASES: u64 = 525_000;
@@ -17,6 +17,8 @@ const LONG_CASES: u64 = 1_000_000;
 const PIECES_FIRST_SEED: u64 = 2001;
 const GROUPED_FIRST_SEED: u64 = 3001;
 const RELAYED_FIRST_SEED: u64 = 4001;
+const TALLIES_FIRST_SEED: u64 = 5001;
+const SHORT_TALLIES: u64 = 20_000;
 
 const USAGE: &str = "\
 usage: independent [MODE]
@@ -25,6 +27,7 @@ usage: independent [MODE]
   pieces N         N million messages, each with an option in pieces over two fields or three
   grouped N        N million grouped files, each with a class, and as many old sheets
   relay N          N million option 82s and as many sheets of sub-options
+  tallies N        N thousand files of captures (request 11), each in any parts
   lines SEED N     N generated cases of request 09 with this package's answers
   captures [DIR]   the files *.bin of a folder (../vectors/captures)
   broken           wrong variants and wrong subjects, each of which has to be detected
@@ -39,6 +42,7 @@ fn main() {
         ["pieces", n] => n.parse().map_or_else(|_| usage(), pieces),
         ["grouped", n] => n.parse().map_or_else(|_| usage(), grouped),
         ["relay", n] => n.parse().map_or_else(|_| usage(), relayed),
+        ["tallies", n] => n.parse().map_or_else(|_| usage(), tallied),
         ["lines", seed, n] => match (seed.parse(), n.parse()) {
             (Ok(seed), Ok(n)) => printed(seed, n),
             _ => usage(),
@@ -77,11 +81,19 @@ fn short() -> i32 {
         println!("TOO SELDOM: {what}");
     }
     let status = end(&run);
-    if missing.is_empty() {
+    let different = tallies::run(1, SHORT_TALLIES);
+    println!("{SHORT_TALLIES} files of captures, {different} differences");
+    if missing.is_empty() && different == 0 {
         status
     } else {
         1
     }
+}
+
+fn tallied(thousands: u64) -> i32 {
+    let different = tallies::run(TALLIES_FIRST_SEED, 1000 * thousands);
+    println!("{thousands} thousand files of captures, {different} differences");
+    i32::from(different > 0)
 }
 
 fn long(millions: u64) -> i32 {

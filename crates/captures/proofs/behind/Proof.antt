@@ -18,8 +18,7 @@ wrapping-add-u64-requires-3 c κs = search needs
 
 returns : tie.Need-returns
 returns c =
-    rw (c .wrapping-add-u643 .ensures, c .before .wrapping-add-u642 .ensures, c .before .before .wrapping-add-u64 .ensures)
-    (record { is = refl; lease-widened = c .before .before .before .widen .ensures })
+    rw (c .wrapping-add-u643 .ensures, c .before .wrapping-add-u642 .ensures, c .before .before .wrapping-add-u64 .ensures, c .before .before .before .widen .ensures)
 
 pub behind-spec : {M : Type 1} → statement M
 behind-spec =

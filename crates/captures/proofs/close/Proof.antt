@@ -23,7 +23,7 @@ returns : tie.Need-returns
 returns c =
     let n = c .before .before .before .before .before .before .before in
     let a = n .before .before .before .before .before .before .before .before .args in
-    closes (a .size) (a .p) (a .message .now) _ _ _ _ _ _ _ _ (n .note .ensures) (c .behind .ensures)
+    rw (c .behind .ensures) (closes (a .size) (a .p) (a .message .now) _ _ _ _ _ _ _ (n .note .ensures))
 
 pub close-spec : {M : Type 1} → statement M
 close-spec =

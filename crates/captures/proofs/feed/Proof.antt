@@ -5,7 +5,6 @@ use mathlib.Core.Path.{_≡_}
 use Prim.Native.Nat.{_+_, _-_, _≤_}
 use lib.ListN.{length, take, drop, length-drop}
 use lib.Seq.{length-take-le}
-use Rattle.message.proofs.Callers.{all-bytes}
 use Rattle.captures.proofs.Runs.{Feeding, feeding-first, feeding-more, feeding-done, fitting-part, fitting-some}
 use Rattle.captures.proofs.feed.Statement.{statement}
 use Rattle.captures.proofs.feed.Tie as tie
@@ -18,16 +17,19 @@ abbrev μ-loop : tie.MeasureT-loop
 
 -- the bytes that are left
 rest-size : (e : tie.In-loop Inv-loop μ-loop) → let l = e .before in
-    let xs = l .before .before .before .before .before .before .args .part .now in
+    let xs = l .before .before .before .args .part .now in
     length (take (length xs - l .loop .i) (drop (l .loop .i) xs)) ≡ length xs - l .loop .i
 rest-size e =
     let l = e .before in
-    let xs = l .before .before .before .before .before .before .args .part .now in
+    let xs = l .before .before .before .args .part .now in
     length-take-le (length xs - l .loop .i) (drop (l .loop .i) xs) (omega (arith, length-drop (l .loop .i) xs))
 
 within : (r : tie.After-run-length Inv-loop μ-loop) → let l = r .before .before .before in
-    l .loop .i + r .run-length .result ≤ length (l .before .before .before .before .before .before .args .part .now)
+    l .loop .i + r .run-length .result ≤ length (l .before .before .before .args .part .now)
 within r = let e = r .before .before in omega (arith, rest-size e, e .loop-test .taken, r .run-length .ensures .0)
+
+tidied-requires : tie.Need-tidied-requires Inv-loop μ-loop
+tidied-requires c κs = search needs
 
 loop-holds : tie.Need-loop-holds Inv-loop μ-loop
 loop-holds c = feeding-first _ _ _ _ _ _
@@ -60,39 +62,26 @@ take-run-requires : tie.Need-take-run-requires Inv-loop μ-loop
 take-run-requires c κs =
     let r = c .before .before .before .before .before in
     let l = r .before .before .before in
-    let a = l .before .before .before .before .before .before .args in
+    let a = l .before .before .before .args in
     fitting-part (l .loop .q) (r .run-length .result) (l .loop .i) (a .part .now) (r .run-length .ensures .1)
 
 loop-less : tie.Need-loop-less Inv-loop μ-loop
 loop-less c =
-    let r = c .before .before .before .before .before .before .before .before .before .before .before .before .before .before in
+    let r = c .before .before .before .before .before .before in
     let l = r .before .before .before in
-    let xs = l .before .before .before .before .before .before .args .part .now in
+    let xs = l .before .before .before .args .part .now in
     omega (arith, within r, fitting-some (take (length xs - l .loop .i) (drop (l .loop .i) xs)) (r .run-length .result) (r .run-length .ensures .1))
 
 loop-again : tie.Need-loop-again Inv-loop μ-loop
 loop-again c =
-    let t = c .before .before .before .before .before .before .before .before in
-    let r = t .before .before .before .before .before .before in
+    let r = c .before .before .before .before .before .before in
     let l = r .before .before .before in
-    let m = l .before .before .before .before .before in
-    let a = m .before .args in
-    feeding-more (all-bytes (a .part .now) (λ j. m .shared-slice-known .given j .fits)) (l .loop .inv) _ (omega arith) (within r) _ _ _ _ _ (t .take-run .kept .1 .1 .0) (t .take-run .kept .1 .1 .1 .0) (t .take-run .kept .1 .1 .1 .1 .0) (t .take-run .kept .1 .1 .1 .1 .1 .0) (t .take-run .ensures)
-
-same-length : tie.Need-same-length Inv-loop μ-loop
-same-length c = c .before .loop .inv .message-long
-
-same-length-2 : tie.Need-same-length-2 Inv-loop μ-loop
-same-length-2 c = c .before .loop .inv .verdicts-long
-
-same-length-3 : tie.Need-same-length-3 Inv-loop μ-loop
-same-length-3 c = c .before .loop .inv .held-long
-
-same-length-4 : tie.Need-same-length-4 Inv-loop μ-loop
-same-length-4 c = c .before .loop .inv .bytes-long
+    feeding-more (l .loop .inv) _ (omega arith) (within r) _ _ _ _ _ (c .take-run .kept .1 .1 .0) (c .take-run .kept .1 .1 .1 .0) (c .take-run .kept .1 .1 .1 .1 .0) (c .take-run .kept .1 .1 .1 .1 .1 .0) (c .take-run .ensures)
 
 returns : tie.Need-returns Inv-loop μ-loop
-returns c = feeding-done (c .before .loop .inv) (omega (arith, c .loop-test .left))
+returns c =
+    let t = c .before .before in
+    feeding-done (c .before .loop .inv) (omega (arith, c .loop-test .left)) (t .before .before .args .p) (t .tidied .ensures)
 
 pub feed-spec : {M : Type 1} → statement M
 feed-spec =
@@ -100,6 +89,7 @@ feed-spec =
     (tie.spec
     Inv-loop
     μ-loop
+    tidied-requires
     loop-holds
     sub-run-length
     part-run-length-start
@@ -112,8 +102,4 @@ feed-spec =
     take-run-requires
     loop-less
     loop-again
-    same-length
-    same-length-2
-    same-length-3
-    same-length-4
     returns)

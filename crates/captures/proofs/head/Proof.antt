@@ -60,7 +60,7 @@ returns-4 c =
     let w = t .before in
     let s = w .before .before in
     let a = s .before .before .before .before .before .before .before .before .before .before .args in
-    λ l. takes-empty (a .b) (a .p) _ _ _ _ (s .if3 .left) (s .before .before .before .before .before .before .before .before .before .before .fits .b .fits) (omega (arith, t .if4 .taken, w .wide2 .ensures, w .before .wide .ensures)) _ _ _ _ (k .close .ensures)
+    λ l. takes-empty (a .b) (a .p) _ _ _ _ (s .if3 .left) (omega (arith, t .if4 .taken, w .wide2 .ensures, w .before .wide .ensures)) _ _ _ _ (k .close .ensures)
 
 in-message-requires : tie.Need-in-message-requires
 in-message-requires c κs = search needs

@@ -1,9 +1,8 @@
 -- `captures::note` meets its contract. Assumes nothing.
 use borrow.Author.Needs.{needs}
 use native.Mathlib.Omega.{arith}
-use mathlib.Core.Path.{sym, ap}
+use mathlib.Core.Path.{sym}
 use lib.Seq.{length-take-le}
-use Rattle.tally.specs.Noted.{timeOf}
 use Rattle.tally.proofs.Noting.{refused-noted}
 use Rattle.captures.proofs.note.Statement.{statement}
 use Rattle.captures.proofs.note.Tie as tie
@@ -20,7 +19,7 @@ same-length c = search needs
 returns : tie.Need-returns
 returns c =
     let r = c .before .before .before in
-    record { if-kept = λ l. absurd (omega (arith, l, r .before .before .if1 .taken)); if-long = λ l p. refused-noted 2 p _ _ _ _ _ (ap timeOf (c .no-time .ensures)) (λ e. omega arith) (r .raise .ensures) }
+    record { if-kept = λ l. absurd (omega (arith, l, r .before .before .if1 .taken)); if-long = λ l p. refused-noted 2 p _ _ _ _ _ (c .no-time .ensures) (λ e. omega arith) (r .raise .ensures) }
 
 slice-aggregate-note : tie.Need-slice-aggregate-note
 slice-aggregate-note c = sym (length-take-le _ _ (omega (arith, c .before .if1 .left)))

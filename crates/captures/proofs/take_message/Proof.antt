@@ -1,7 +1,6 @@
 -- `captures::take_message` meets its contract. Assumes nothing.
 use borrow.Author.Needs.{needs}
 use native.Mathlib.Omega.{arith}
-use Rattle.message.proofs.Callers.{all-bytes}
 use Rattle.captures.proofs.Stages.{takes-some, takes-last}
 use Rattle.captures.proofs.take_message.Statement.{statement}
 use Rattle.captures.proofs.take_message.Tie as tie
@@ -45,10 +44,9 @@ returns-2 c =
     let x = c .before .before .before .before .before .before in
     let i = x .before .before .before .before .before in
     let k = i .before .before .before in
-    let m = k .before .before .before .before .before .before in
-    let s = m .before in
+    let s = k .before .before .before .before .before .before .before in
     let a = s .args in
-    takes-last (a .run .now) (a .p) _ _ _ _ _ (s .pre .0) (k .keep .ensures) (all-bytes (a .run .now) (λ j. m .shared-slice-known .given j .fits)) (omega (arith, i .if1 .left, s .pre .1)) _ _ _ _ (x .close .ensures)
+    takes-last (a .run .now) (a .p) _ _ _ _ _ (s .pre .0) (k .keep .ensures) (omega (arith, i .if1 .left, s .pre .1)) _ _ _ _ (x .close .ensures)
 
 pub take-message-spec : {M : Type 1} → statement M
 take-message-spec =

@@ -5,7 +5,6 @@ use mathlib.Core.Path.{sym, subst}
 use mathlib.Core.List.{List}
 use Prim.Native.Nat.{ℕ}
 use Rattle.options.specs.Reading.{readMessage}
-use Rattle.message.proofs.Callers.{all-bytes}
 use Rattle.tally.specs.Noted.{Noted}
 use Rattle.captures.proofs.Stages.{body-of, record-size, record-long, takes-record}
 use Rattle.captures.proofs.take_record.Statement.{statement}
@@ -41,11 +40,10 @@ same-length-3 c = search needs
 returns : tie.Need-returns
 returns c =
     let n = c .before .before .before .before .before .before .before in
-    let k = c .before .before .before .before .before .before .before .before .before .before .before .before .before .before .before in
-    let s = k .before in
+    let s = c .before .before .before .before .before .before .before .before .before .before .before .before .before .before .before .before in
     let a = s .args in
     let w = s .pre .2 in
-    λ message. takes-record (a .run .now) (a .p) message _ _ _ w (all-bytes (a .run .now) (λ j. k .shared-slice-known .given j .fits)) (s .pre .0) (s .pre .1) _ (record-size w) _ _ _ _ _ (c .behind .ensures) (rw (body-of w) at (n .note .ensures))
+    λ message. rw (c .behind .ensures) (takes-record (a .run .now) (a .p) message _ _ _ w (s .pre .0) (s .pre .1) _ (record-size w) _ _ _ _ (rw (body-of w) at (n .note .ensures)))
 
 pub take-record-spec : {M : Type 1} → statement M
 take-record-spec =

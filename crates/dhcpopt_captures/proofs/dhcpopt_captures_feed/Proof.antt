@@ -1,5 +1,6 @@
 -- `dhcpopt_captures::dhcpopt_captures_feed` meets its contract. Assumes nothing.
 use borrow.Author.Needs.{needs}
+use Rattle.dhcpopt_captures.proofs.Kept.{feeds-plain}
 use Rattle.dhcpopt_captures.proofs.dhcpopt_captures_feed.Statement.{statement}
 use Rattle.dhcpopt_captures.proofs.dhcpopt_captures_feed.Tie as tie
 
@@ -13,7 +14,9 @@ plain-requires : tie.Need-plain-requires
 plain-requires c κs = search needs
 
 returns : tie.Need-returns
-returns c = rw (c .plain .ensures, ← c .before .before .before .before .before .before .progress-of .ensures) (c .before .feed .ensures)
+returns c =
+    let f = c .before in
+    feeds-plain _ _ _ _ _ _ _ _ _ _ _ _ _ (f .before .before .before .before .before .progress-of .ensures) (c .plain .ensures) (f .feed .ensures)
 
 pub dhcpopt-captures-feed-spec : {M : Type 1} → statement M
 dhcpopt-captures-feed-spec =

@@ -1,6 +1,5 @@
 -- `report::is_open` meets its contract. Assumes nothing.
 use borrow.Author.Tests.{eq-eqb, ne-eqb}
-use Rattle.report.proofs.Lines.{not-zero}
 use Rattle.report.proofs.is_open.Statement.{statement}
 use Rattle.report.proofs.is_open.Tie as tie
 
@@ -8,7 +7,7 @@ returns : tie.Need-returns
 returns c = rw (ne-eqb _ _ (c .if1 .taken))
 
 returns-2 : tie.Need-returns-2
-returns-2 c = rw (eq-eqb _ _ (c .before .if1 .left)) (not-zero (c .before .before .before .args .p .size))
+returns-2 c = rw (eq-eqb _ _ (c .before .if1 .left))
 
 pub is-open-spec : {M : Type 1} → statement M
 is-open-spec =

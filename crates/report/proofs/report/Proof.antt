@@ -8,7 +8,7 @@ use Rattle.report.proofs.report.Statement.{statement}
 use Rattle.report.proofs.report.Tie as tie
 
 -- the buffer has room for every report
-room : (c : tie.After-put-one) → length (c .before .before .before .before .before .before .args .out .now) ≡ 16384
+room : (c : tie.After-put-one) → length (c .before .before .before .args .out .now) ≡ 16384
 room c = search needs
 
 slice-aggregate-put-one : tie.Need-slice-aggregate-put-one
@@ -42,11 +42,11 @@ returns : tie.Need-returns
 returns c =
     let e = c .before .before in
     let d = e .before .before in
-    let r = d .before .before in
-    let b = r .before .before in
+    let r = d .before .before .before .before in
+    let b = r .before .before .before in
     let f = b .before in
-    let a = f .before .before .before in
-    let s = a .before .before .before .before .before .before .args in
+    let a = f .before .before .before .before in
+    let s = a .before .before .before .args in
     let t = whole-text (s .p) (s .verdicts .now) (s .held .now) (s .bytes .now) (a .put-one .ensures) (rw (f .first .ensures) at (b .put-one2 .ensures)) (r .put-refusals .ensures) (d .put-codes .ensures) (e .put-lease .ensures) (c .put-last .ensures) in
     (puts-within t, reports (s .p) (s .verdicts .now) (s .held .now) (s .bytes .now) (s .out .now) _ _ (omega (arith, room a)) t)
 

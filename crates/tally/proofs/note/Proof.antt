@@ -1,9 +1,8 @@
 -- `tally::note` meets its contract. Assumes nothing.
 use borrow.Author.Needs.{needs}
-use mathlib.Core.Path.{ap}
 use native.Mathlib.Omega.{arith}
 use Rattle.message.proofs.Callers.{all-bytes}
-use Rattle.tally.specs.Noted.{timeOf, Lent}
+use Rattle.tally.specs.Noted.{Lent}
 use Rattle.tally.proofs.Noting.{not-lent, noted-refused, noted-accepted, fields-end}
 use Rattle.tally.proofs.note.Statement.{statement}
 use Rattle.tally.proofs.note.Tie as tie
@@ -16,19 +15,19 @@ no-time-requires : tie.Need-no-time-requires
 no-time-requires c κs = search needs
 
 returns : tie.Need-returns
-returns c = not-lent _ _ _ _ _ (ap timeOf (c .no-time .ensures)) (λ l. c .before .if1 .taken (l .eight))
+returns c = not-lent _ _ _ _ _ (c .no-time .ensures) (λ l. c .before .if1 .taken (l .eight))
 
 no-time-requires-2 : tie.Need-no-time-requires-2
 no-time-requires-2 c κs = search needs
 
 returns-2 : tie.Need-returns-2
-returns-2 c = not-lent _ _ _ _ _ (ap timeOf (c .no-time2 .ensures)) (λ l. c .before .if2 .taken (l .held-all))
+returns-2 c = not-lent _ _ _ _ _ (c .no-time2 .ensures) (λ l. c .before .if2 .taken (l .held-all))
 
 no-time-requires-3 : tie.Need-no-time-requires-3
 no-time-requires-3 c κs = search needs
 
 returns-3 : tie.Need-returns-3
-returns-3 c = not-lent _ _ _ _ _ (ap timeOf (c .no-time3 .ensures)) (λ l. c .before .if3 .taken (l .bytes-all))
+returns-3 c = not-lent _ _ _ _ _ (c .no-time3 .ensures) (λ l. c .before .if3 .taken (l .bytes-all))
 
 find-requires : tie.Need-find-requires
 find-requires c κs = search needs
@@ -51,7 +50,7 @@ returns-4 c =
     let f = r .before .before .before in
     let n = f .before in
     let a = c .before .before .before .before .before .before .before .before .before .before .before .before .before .before .before .before .args in
-    noted-refused (a .m .now) (f .find .result) (f .find .ensures) _ _ _ _ (lent n) (r .raise .ensures) _ (ap timeOf (c .no-time4 .ensures)) (λ e. omega (arith, c .before .if4 .taken, e))
+    noted-refused (a .m .now) (f .find .result) (f .find .ensures) _ _ _ _ (lent n) (r .raise .ensures) _ (c .no-time4 .ensures) (λ e. omega (arith, c .before .if4 .taken, e))
 
 count-options-requires : tie.Need-count-options-requires
 count-options-requires c κs =

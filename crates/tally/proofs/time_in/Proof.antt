@@ -10,7 +10,7 @@ use Rattle.options.specs.Message.{Opt}
 use Rattle.options.specs.Kinds.{first32}
 use Rattle.message.proofs.Callers.{all-bytes, ScanAccepted, scan-accepted}
 use Rattle.lookup.proofs.Laws.{last-short}
-use Rattle.tally.specs.Noted.{timeOf}
+use Rattle.tally.specs.Noted.{timeIn}
 use Rattle.tally.proofs.Times.{no-lease, lease-joined, joined-apart, lease-in-one, one-within}
 use Rattle.tally.proofs.time_in.Statement.{statement}
 use Rattle.tally.proofs.time_in.Tie as tie
@@ -37,7 +37,7 @@ returns : tie.Need-returns
 returns c =
     let t = told (c .before .before) in
     let a = c .before .before .before .before .args in
-    ap timeOf (c .no-time .ensures) ∙ sym (no-lease (a .m .now) (a .w) (t .0) (t .1) (c .before .if1 .taken))
+    c .no-time .ensures ∙ ap timeIn (sym (no-lease (a .m .now) (a .w) (t .0) (t .1) (c .before .if1 .taken)))
 
 add-if2 : tie.Need-add-if2
 add-if2 c =
@@ -58,9 +58,9 @@ returns-2 : tie.Need-returns-2
 returns-2 c =
     let t = told (c .before .before .before .before .before) in
     let a = c .before .before .before .before .before .before .before .args in
-    ap timeOf (c .time-is .ensures)
-    ∙ ap some (c .before .joined-time .ensures)
-    ∙ sym (lease-joined (a .m .now) (a .w) (t .0) (t .1) (c .before .before .before .before .if1 .left))
+    c .time-is .ensures
+    ∙ ap (λ (n : ℕ). timeIn (some n)) (c .before .joined-time .ensures)
+    ∙ ap timeIn (sym (lease-joined (a .m .now) (a .w) (t .0) (t .1) (c .before .before .before .before .if1 .left)))
 
 add-end : tie.Need-add-end
 add-end c = omega (arith, within c)
@@ -86,9 +86,9 @@ returns-3 c =
     let t = told (e .before .before .before) in
     let a = e .before .before .before .before .before .args in
     let n : a .w .start + 4 - a .w .start ≡ 4 = omega arith in
-    ap timeOf (c .time-is2 .ensures)
-    ∙ ap some (c .before .first32 .ensures ∙ ap (λ (k : ℕ). first32 (take k (drop (a .w .start) (a .m .now)))) n)
-    ∙ sym (lease-in-one (a .m .now) (a .w) (t .0) (t .1) (e .before .before .if1 .left) (e .if2 .left))
+    c .time-is2 .ensures
+    ∙ ap (λ (n : ℕ). timeIn (some n)) (c .before .first32 .ensures ∙ ap (λ (k : ℕ). first32 (take k (drop (a .w .start) (a .m .now)))) n)
+    ∙ ap timeIn (sym (lease-in-one (a .m .now) (a .w) (t .0) (t .1) (e .before .before .if1 .left) (e .if2 .left)))
 
 pub time-in-spec : {M : Type 1} → statement M
 time-in-spec =

@@ -5,6 +5,7 @@
 use super::compare::Run;
 use super::library::library;
 use super::sides::{independent_rules, own_exports, yardstick, Subject, Yardstick};
+use super::tallies::{self, tally_of, TallyOf};
 use independent::boundary::{self, Answer, Extent, Filled, Present, Profiled, Relay, Wrote};
 use std::panic;
 
@@ -13,6 +14,7 @@ include!(concat!(env!("OUT_DIR"), "/variants.rs"));
 /// So many cases are tried before something is held not to be told.
 const CASES: u64 = 300_000;
 const SEED: u64 = 1;
+const TALLY_CASES: u64 = 3_000;
 
 /// Exit status 0 when all are told, and what is right is not.
 pub fn run() -> i32 {
@@ -22,6 +24,12 @@ pub fn run() -> i32 {
         println!("control, {name}: {}", if found.is_none() { "no difference" } else { "DIFFERS" });
         failed += usize::from(found.is_some());
     }
+    let tallies = tally_difference(tallies::independent_tally());
+    println!(
+        "control, the library's tallies: {}",
+        if tallies.is_none() { "no difference" } else { "DIFFERS" }
+    );
+    failed += usize::from(tallies.is_some());
     let mut subjects = subjects();
     subjects.extend(relay_subjects());
     subjects.extend(profile_subjects());
@@ -32,8 +40,12 @@ pub fn run() -> i32 {
     for &(name, subject) in &subjects {
         failed += usize::from(!told("subject", name, subject, independent_rules()));
     }
+    for &(name, rules) in &TALLIES {
+        failed += usize::from(!tally_told(name, rules));
+    }
     let _ = panic::take_hook();
-    println!("{} wrong ones and 2 controls, {failed} failed", VARIANTS.len() + subjects.len());
+    let wrong = VARIANTS.len() + subjects.len() + TALLIES.len();
+    println!("{wrong} wrong ones and 3 controls, {failed} failed");
     i32::from(failed > 0)
 }
 
@@ -51,6 +63,30 @@ fn told(what: &str, name: &str, subject: Subject, rules: Yardstick) -> bool {
         }
     }
     true
+}
+
+fn tally_told(name: &str, rules: TallyOf) -> bool {
+    match panic::catch_unwind(move || tally_difference(rules)) {
+        Ok(Some(what)) => println!("variant of captures '{name}': detected {what}"),
+        Ok(None) => {
+            println!("variant of captures '{name}': NOT DETECTED in {TALLY_CASES} files");
+            return false;
+        }
+        Err(_) => {
+            println!("variant of captures '{name}': ended in a panic, which shows nothing");
+            return false;
+        }
+    }
+    true
+}
+
+/// The first file of captures of which something else is told.
+fn tally_difference(rules: TallyOf) -> Option<String> {
+    let generated = (0..TALLY_CASES).find(|&index| !tallies::case(SEED, index, rules, false));
+    match generated {
+        Some(index) => Some(format!("at file {index}")),
+        None => (!tallies::many(rules, false)).then(|| "at a million messages".to_string()),
+    }
 }
 
 /// The first difference: its case and call.

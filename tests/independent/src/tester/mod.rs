@@ -16,5 +16,6 @@ mod replies;
 mod rng;
 mod sheets;
 pub mod sides;
+pub mod tallies;
 mod values;
 mod vendor;

@@ -74,4 +74,10 @@ impl Rng {
             _ => self.fill(&mut out[from..]),
         }
     }
+
+    pub fn telling_bytes_of(&mut self, length: usize) -> Vec<u8> {
+        let mut out = Vec::new();
+        self.telling_bytes(length, &mut out);
+        out
+    }
 }

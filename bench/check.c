@@ -10,7 +10,7 @@ enum { ROOM = 4096, UNTOUCHED = 0xA5, COPIED = 1472, SHEET = 2048 };
 
 static const char *const kinds[] = {"",          "address",    "addresses", "pairs", "flag",  "octet", "number16",
                                     "numbers16", "unsigned32", "signed32",  "text",  "opaque",
-                                    "relay"};
+                                    "relay", "routes"};
 static const char *const fields[] = {"", "options", "file", "sname"};
 static const uint64_t every[4] = {UINT64_MAX, UINT64_MAX, UINT64_MAX, UINT64_MAX};
 static const uint64_t none[4];

@@ -10,6 +10,8 @@
  *                            numbers and the reports
  * compare sheets FILE...     writes each sheet with both: every buffer size, every permission, cut off anywhere, any byte changed
  * compare relay FILE...      the same as sub-options
+ * compare routes FILE...     walks each as routes with both, from every place, and writes it as nine bytes a route: every room, cut off anywhere, any byte
+ *                            changed; asks each as a message whether 3 and 33 are ignored, with any byte changed
  * compare vendor FILE...     reads each as items with both, and writes it as records of items: every room, cut off anywhere, any byte changed
  */
 #include "input.h"
@@ -265,6 +267,31 @@ static void compare_inside(const char *name, void (*compare)(const char *, size_
     }
 }
 
+/* The first n bytes as the data of an option 121, from every place; as routes to be written; and as a message. */
+static void compare_route_bytes(const char *name, size_t n, size_t room)
+{
+    static const uint64_t known[3][4] = {{UINT64_MAX, UINT64_MAX, UINT64_MAX, UINT64_MAX}, {0, (uint64_t)1 << (121 - 64), 0, 0}, {UINT64_MAX, 0, 0, 0}};
+    static uint8_t a[ROOM], b[ROOM];
+    memset(a, UNTOUCHED, ROOM);
+    memset(b, UNTOUCHED, ROOM);
+    for (size_t at = 0; at < n + 3; at++) {
+        plain_route r = plain_route_step(in, n, at);
+        dhcpopt_route q = dhcpopt_route_step(in, n, at);
+        if (r.given != q.given || r.destination != q.destination || r.width != q.width || r.router != q.router || r.next != q.next)
+            fail("routes differ", name);
+    }
+    plain_filled p = plain_routes_write(in, n, a, room);
+    dhcpopt_filled l = dhcpopt_routes_write(in, n, b, room);
+    if (p.refusal != l.refusal || p.size != l.size || p.place != l.place || memcmp(a, b, ROOM) != 0)
+        fail("routes written differ", name);
+    for (size_t i = 0; i < 3; i++) {
+        plain_ignored j = plain_routes_ignored(in, n, known[i]);
+        dhcpopt_ignored k = dhcpopt_routes_ignored(in, n, known[i][0], known[i][1], known[i][2], known[i][3]);
+        if (j.refusal != k.refusal || j.ignored != k.ignored || j.place != k.place)
+            fail("whether 3 and 33 are ignored differs", name);
+    }
+}
+
 static void equal_filled(const char *name, const char *call, plain_filled p, dhcpopt_filled l, const uint8_t *a, const uint8_t *b, size_t room)
 {
     if (p.refusal != l.refusal || p.size != l.size || p.place != l.place || memcmp(a, b, room) != 0) {
@@ -385,7 +412,7 @@ static void compare_profile(const char *name)
 int main(int argc, char **argv)
 {
     if (argc < 3)
-        fail("usage", "compare messages|index|profile|sheets|vendor|relay|grouped|captures FILE...");
+        fail("usage", "compare messages|index|profile|sheets|vendor|relay|routes|grouped|captures FILE...");
     for (int i = 2; i < argc; i++) {
         memset(in, 0, sizeof in);
         size = take(argv[i], in, sizeof in);
@@ -399,6 +426,8 @@ int main(int argc, char **argv)
             compare_inside(argv[i], compare_items);
         else if (strcmp(argv[1], "relay") == 0)
             compare_inside(argv[i], compare_sub_options);
+        else if (strcmp(argv[1], "routes") == 0)
+            compare_inside(argv[i], compare_route_bytes);
         else if (strcmp(argv[1], "grouped") == 0)
             compare_file(argv[i]);
         else if (strcmp(argv[1], "captures") == 0)

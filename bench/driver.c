@@ -2,7 +2,7 @@
  * driver plain|rust|library CALL FILE [NUMBER...]   makes one call, for `run` to count
  * driver time CALL FILE [NUMBER...]                 prints the nanoseconds of a call: plain C's, plain Rust's and the library's
  *
- * FILE is a message (for captures_feed one that fills a part of 64 KiB, again and again), the sheet to write or to group, for vendor_records and relay_records the data of an option 43 or 82, or a grouped file, from which is chosen for
+ * FILE is the routes of an option 121 for route_walk, which steps to their end, and nine bytes a route for routes_write; else a message (for captures_feed one that fills a part of 64 KiB, again and again), the sheet to write or to group, for vendor_records and relay_records the data of an option 43 or 82, or a grouped file, from which is chosen for
  * the class "meter".
  * The numbers: the code for lookup, data, copy and index_lookup; the buffer's size and the permission for write.
  * The library's side is left out unless LIBRARY is defined, Rust's unless RUST is.
@@ -65,6 +65,18 @@ static bool vendor_records_plain(void) { return plain_vendor_records(in, size, o
 static bool vendor_write_plain(void) { return plain_vendor_write(in, size, out, ROOM).refusal == 0; }
 static bool relay_records_plain(void) { return plain_relay_records(in, size, out, ROOM).refusal == 0; }
 static bool relay_write_plain(void) { return plain_relay_write(in, size, out, ROOM).refusal == 0; }
+static bool routes_write_plain(void) { return plain_routes_write(in, size, out, ROOM).refusal == 0; }
+static bool routes_ignored_plain(void) { return plain_routes_ignored(in, size, every).ignored == 1; }
+/* To the end, as a service does: a loop of its own for each side, of which the calls are counted too. */
+__attribute__((noinline)) static bool plain_route_walk(void)
+{
+    uint32_t all = 0;
+    size_t at = 0;
+    for (plain_route r; r = plain_route_step(in, size, at), r.given; at = r.next)
+        all |= r.destination ^ r.router ^ r.width;
+    return at == size && all != 0;
+}
+static bool route_walk_plain(void) { return plain_route_walk(); }
 static bool captures_feed_plain(void)
 {
     return plain_captures_feed(plain_captures_begin(), part, part_size, kept, verdicts, held, held_bytes).messages != 0;
@@ -100,6 +112,20 @@ static bool vendor_records_library(void) { return dhcpopt_vendor_records(in, siz
 static bool vendor_write_library(void) { return dhcpopt_vendor_write(in, size, out, ROOM).refusal == 0; }
 static bool relay_records_library(void) { return dhcpopt_relay_records(in, size, out, ROOM).refusal == 0; }
 static bool relay_write_library(void) { return dhcpopt_relay_write(in, size, out, ROOM).refusal == 0; }
+static bool routes_write_library(void) { return dhcpopt_routes_write(in, size, out, ROOM).refusal == 0; }
+static bool routes_ignored_library(void)
+{
+    return dhcpopt_routes_ignored(in, size, every[0], every[1], every[2], every[3]).ignored == 1;
+}
+__attribute__((noinline)) static bool dhcpopt_route_walk(void)
+{
+    uint32_t all = 0;
+    size_t at = 0;
+    for (dhcpopt_route r; r = dhcpopt_route_step(in, size, at), r.given; at = r.next)
+        all |= r.destination ^ r.router ^ r.width;
+    return at == size && all != 0;
+}
+static bool route_walk_library(void) { return dhcpopt_route_walk(); }
 static bool captures_feed_library(void)
 {
     static const dhcpopt_captures begun;
@@ -129,6 +155,9 @@ dhcpopt_filled independent_vendor_records(const uint8_t *bytes, size_t n, uint8_
 dhcpopt_filled independent_vendor_write(const uint8_t *sheet, size_t n, uint8_t *out, size_t room);
 dhcpopt_relay independent_relay_records(const uint8_t *bytes, size_t n, uint8_t *out, size_t room);
 dhcpopt_filled independent_relay_write(const uint8_t *sheet, size_t n, uint8_t *out, size_t room);
+dhcpopt_route independent_route_step(const uint8_t *bytes, size_t n, size_t at);
+dhcpopt_filled independent_routes_write(const uint8_t *routes, size_t n, uint8_t *out, size_t room);
+dhcpopt_ignored independent_routes_ignored(const uint8_t *m, size_t n, uint64_t k0, uint64_t k1, uint64_t k2, uint64_t k3);
 void *independent_captures_begin(void);
 void independent_captures_feed(void *tally, const uint8_t *part, size_t n);
 static bool captures_feed_rust(void)
@@ -171,6 +200,20 @@ static bool vendor_records_rust(void) { return independent_vendor_records(in, si
 static bool vendor_write_rust(void) { return independent_vendor_write(in, size, out, ROOM).refusal == 0; }
 static bool relay_records_rust(void) { return independent_relay_records(in, size, out, ROOM).refusal == 0; }
 static bool relay_write_rust(void) { return independent_relay_write(in, size, out, ROOM).refusal == 0; }
+static bool routes_write_rust(void) { return independent_routes_write(in, size, out, ROOM).refusal == 0; }
+static bool routes_ignored_rust(void)
+{
+    return independent_routes_ignored(in, size, every[0], every[1], every[2], every[3]).ignored == 1;
+}
+__attribute__((noinline)) static bool independent_route_walk(void)
+{
+    uint32_t all = 0;
+    size_t at = 0;
+    for (dhcpopt_route r; r = independent_route_step(in, size, at), r.given; at = r.next)
+        all |= r.destination ^ r.router ^ r.width;
+    return at == size && all != 0;
+}
+static bool route_walk_rust(void) { return independent_route_walk(); }
 #else
 #define RUST_SIDE(call) NULL
 #endif
@@ -184,7 +227,7 @@ typedef struct {
 
 static const char *const names[3] = {"plain", "rust", "library"};
 static const call_sides calls[] = {SIDES(lookup), SIDES(data), SIDES(copy), SIDES(present), SIDES(records), SIDES(write),
-                                   SIDES(vendor_records), SIDES(vendor_write), SIDES(relay_records), SIDES(relay_write), SIDES(index_build), SIDES(index_lookup), SIDES(thirty), SIDES(profile),
+                                   SIDES(vendor_records), SIDES(vendor_write), SIDES(relay_records), SIDES(relay_write), SIDES(route_walk), SIDES(routes_write), SIDES(routes_ignored), SIDES(index_build), SIDES(index_lookup), SIDES(thirty), SIDES(profile),
                                    SIDES(choose), SIDES(check_grouped), SIDES(group), SIDES(ungroup), SIDES(captures_feed)};
 
 static const call_sides *find(const char *name)

@@ -1,6 +1,7 @@
 #!/usr/bin/env python3
 """
-messages.py                 writes the measured messages, sheets, vendor and relay information to messages/*.bin, *.sheet, *.vendor, *.relay and *.records
+messages.py                 writes the measured messages, sheets, vendor and relay information and routes to messages/*.bin, *.sheet, *.vendor, *.relay, *.records, *.routes
+                            and *.nine
 messages.py growth FOLDER   writes those of 10 to 100 options that `run growth` measures
 """
 
@@ -204,6 +205,31 @@ def sub_option_records():
     return b"".join(record(c, d) for c, d in agent())
 
 
+def four_routes():
+    """What the district store routes: a default, two networks and a host, as width, destination and router."""
+    return [(0, bytes(4), address(1)), (24, bytes([198, 51, 100, 0]), address(2)), (12, bytes([172, 16, 0, 0]), address(3)), (32, bytes([203, 0, 113, 7]), address(4))]
+
+
+def routes():
+    """The same inside an option 121."""
+    return b"".join(bytes([width]) + destination[:(width + 7) // 8] + router for width, destination, router in four_routes())
+
+
+def nine_each():
+    """The same for the writer of routes."""
+    return b"".join(bytes([width]) + destination + router for width, destination, router in four_routes())
+
+
+def routed():
+    """The options of `offer`, and the routes behind them."""
+    return message(offer()[240:].rstrip(b"\0")[:-1] + option(121, routes()) + END, size=300)
+
+
+def routed_sheet():
+    """A sheet with these routes, for the comparison with plain C alone."""
+    return record(53, b"\x02") + record(121, routes()) + record(51, seconds(3600))
+
+
 def growth(n):
     """A message and a sheet of n options of 12 bytes each, codes without a row; in the message 51 stands behind them."""
     codes = range(100, 100 + n)
@@ -267,6 +293,10 @@ else:
             ("probes.records", item_records()),
             ("agent.relay", sub_options()),
             ("agent.records", sub_option_records()),
+            ("routed.bin", routed()),
+            ("routed.sheet", routed_sheet()),
+            ("store.routes", routes()),
+            ("store.nine", nine_each()),
             ("clinics.grouped", clinics()),
             ("flat.grouped", group(b"", flat())),
             ("flat.settings", flat()),

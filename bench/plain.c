@@ -186,7 +186,7 @@ plain_answer plain_lookup(const uint8_t *m, size_t n, const uint64_t known[4], u
     }
     if (!value_fits(kind, code, d, w.whole)) {
         a.status = PLAIN_BROKEN;
-        a.refusal = VALUE_FAULT(kind);
+        a.refusal = VALUE_FAULT(kind, d, w.whole);
         a.place = w.at;
         return a;
     }

@@ -1,4 +1,4 @@
-/* The reader and writer of document 01, with requests 01 to 08 of document 02, in plain C: the measure for the library's calls. */
+/* The reader and writer of document 01, with requests 01 to 11, 13 and 14 of document 02, in plain C: the measure for the library's calls. */
 #ifndef PLAIN_H
 #define PLAIN_H
 
@@ -25,7 +25,8 @@ enum {
     PLAIN_SIGNED32,
     PLAIN_TEXT,
     PLAIN_OPAQUE,
-    PLAIN_RELAY
+    PLAIN_RELAY,
+    PLAIN_ROUTES
 };
 
 /* What a call does not give is 0. A refusal is 01's number, 0 if there is none. */
@@ -64,6 +65,18 @@ typedef struct {
     size_t size, place, circuit_start, circuit_length, remote_start, remote_length;
 } plain_relay;
 
+/* Request 14: a route of an option 121, and the place behind it. given 0: done, and next is the place asked for. */
+typedef struct {
+    uint32_t given, destination, width, router;
+    size_t next;
+} plain_route;
+
+/* Whether options 3 and 33 are ignored; or a refusal. */
+typedef struct {
+    uint32_t refusal, ignored;
+    size_t place;
+} plain_ignored;
+
 /* refusal 0: written, by that plan. */
 typedef struct {
     uint32_t refusal, plan;
@@ -90,6 +103,10 @@ plain_filled plain_vendor_write(const uint8_t *sheet, size_t n, uint8_t *out, si
 
 plain_relay plain_relay_records(const uint8_t *bytes, size_t n, uint8_t *out, size_t room);
 plain_filled plain_relay_write(const uint8_t *sheet, size_t n, uint8_t *out, size_t room);
+
+plain_route plain_route_step(const uint8_t *bytes, size_t n, size_t at);
+plain_filled plain_routes_write(const uint8_t *routes, size_t n, uint8_t *out, size_t room);
+plain_ignored plain_routes_ignored(const uint8_t *m, size_t n, const uint64_t known[4]);
 
 /* Grouped sheets, request 08. */
 plain_checked plain_check_grouped(const uint8_t *f, size_t n);

@@ -105,7 +105,7 @@ static plain_answer answer_at(const uint8_t *m, size_t at, size_t n, const uint6
     }
     if (!length_fits(kind, code, n) || !value_fits(kind, code, d, n)) {
         a.status = PLAIN_BROKEN;
-        a.refusal = length_fits(kind, code, n) ? VALUE_FAULT(kind) : 8;
+        a.refusal = length_fits(kind, code, n) ? VALUE_FAULT(kind, d, n) : 8;
         a.place = at;
         return a;
     }

@@ -9,15 +9,23 @@
 enum { SNAME = 44, FILE_FIELD = 108, COOKIE = 236, OPTIONS = 240, LONGEST = 1472 };
 enum { PAD = 0, OVERLOAD = 52, END = 255 };
 
-/* Request 09: "8 where sub-options don't fill the data exactly". */
-#define VALUE_FAULT(kind) ((kind) == PLAIN_RELAY ? 8u : 9u)
+/* Where value_fits says no. Request 09: "8 where sub-options don't fill the data exactly"; request 14: the first faulty route tells. */
+#define VALUE_FAULT(kind, d, n) ((kind) == PLAIN_RELAY || ((kind) == PLAIN_ROUTES && routes_fault(d, n) == 8) ? 8u : 9u)
+
+/* Request 14: a width, its whole and begun bytes of destination, four of router. */
+enum { WIDEST = 32 };
+
+static size_t route_length(uint8_t width)
+{
+    return 1 + (width + 7u) / 8 + 4;
+}
 
 /* Request 04: the kinds by ranges of codes, in rising order, those without a row too, 8, 10 and 34 among them (request 10). A range begins behind the
    one before; the last is there to fill the 64 rows. */
 static const uint8_t RANGE_LAST[64] = {
     0, 1, 2, 7, 8, 9, 10, 11, 12, 13, 15, 16, 18, 20, 21, 22, 23, 24, 25, 26, 27, 28, 31, 32, 33, 34,
     35, 36, 37, 38, 39, 40, 42, 43, 45, 46, 47, 49, 50, 51, 53, 54, 55, 56, 57, 59, 61, 63, 64, 65,
-    67, 76, 81, 82, 255, 255, 255, 255, 255, 255, 255, 255, 255, 255,
+    67, 76, 81, 82, 120, 121, 255, 255, 255, 255, 255, 255, 255, 255,
 };
 static const uint8_t RANGE_KIND[64] = {
     PLAIN_NO_ROW, PLAIN_ADDRESS, PLAIN_SIGNED32, PLAIN_ADDRESSES, PLAIN_NO_ROW, PLAIN_ADDRESSES,
@@ -29,7 +37,7 @@ static const uint8_t RANGE_KIND[64] = {
     PLAIN_OCTET, PLAIN_OPAQUE, PLAIN_ADDRESSES, PLAIN_ADDRESS, PLAIN_UNSIGNED32, PLAIN_OCTET,
     PLAIN_ADDRESS, PLAIN_OPAQUE, PLAIN_TEXT, PLAIN_NUMBER16, PLAIN_UNSIGNED32, PLAIN_OPAQUE,
     PLAIN_NO_ROW, PLAIN_TEXT, PLAIN_ADDRESSES, PLAIN_TEXT, PLAIN_ADDRESSES, PLAIN_NO_ROW,
-    PLAIN_RELAY, PLAIN_NO_ROW, PLAIN_NO_ROW, PLAIN_NO_ROW, PLAIN_NO_ROW, PLAIN_NO_ROW,
+    PLAIN_RELAY, PLAIN_NO_ROW, PLAIN_ROUTES, PLAIN_NO_ROW, PLAIN_NO_ROW, PLAIN_NO_ROW,
     PLAIN_NO_ROW, PLAIN_NO_ROW, PLAIN_NO_ROW, PLAIN_NO_ROW, PLAIN_NO_ROW,
 };
 
@@ -75,9 +83,23 @@ static bool length_fits(uint32_t kind, uint8_t c, size_t n)
         return n % 2 == 0 && n > 0;
     case PLAIN_RELAY:
         return n >= 2;
+    case PLAIN_ROUTES:
+        return n >= 5;
     default:
         return n > (c == 61);
     }
+}
+
+/* The number of the first faulty route, 0 if there is none. */
+static uint32_t routes_fault(const uint8_t *d, size_t n)
+{
+    for (size_t i = 0; i < n; i += route_length(d[i])) {
+        if (d[i] > WIDEST)
+            return 9;
+        if (n - i < route_length(d[i]))
+            return 8;
+    }
+    return 0;
 }
 
 static bool value_fits(uint32_t kind, uint8_t c, const uint8_t *d, size_t n)
@@ -126,6 +148,8 @@ static bool value_fits(uint32_t kind, uint8_t c, const uint8_t *d, size_t n)
             i += d[i + 1] + 2u;
         return i == n; /* else the length is wrong: VALUE_FAULT */
     }
+    case PLAIN_ROUTES:
+        return routes_fault(d, n) == 0;
     default:
         return true;
     }

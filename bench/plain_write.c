@@ -37,7 +37,7 @@ static plain_wrote judge(const uint8_t *s, size_t n, size_t *size)
         if (!length_fits(kind, c, length))
             return refused(8, i);
         if (!value_fits(kind, c, d, length))
-            return refused(VALUE_FAULT(kind), i);
+            return refused(VALUE_FAULT(kind, d, length), i);
         if (c == ROUTER)
             router = i;
         if (c == MASK)

@@ -304,6 +304,78 @@ static void profile(void)
     CHECK(dhcpopt_profile_rule_name(8)[0] == '\0');
 }
 
+/* A default route and a network, whose last byte has bits past its width. */
+static void routes(void)
+{
+    static const uint8_t data[13] = {0, 10, 0, 0, 1, 20, 192, 168, 31, 10, 0, 0, 2};
+    dhcpopt_route r = dhcpopt_route_step(data, sizeof data, 0);
+    CHECK(r.given == 1 && r.destination == 0 && r.width == 0 && r.router == 0x0A000001 && r.next == 5);
+    r = dhcpopt_route_step(data, sizeof data, r.next);
+    CHECK(r.given == 1 && r.destination == 0xC0A81000 && r.width == 20 && r.router == 0x0A000002 && r.next == 13);
+    r = dhcpopt_route_step(data, sizeof data, r.next);
+    CHECK(r.given == 0 && r.destination == 0 && r.width == 0 && r.router == 0 && r.next == 13);
+    r = dhcpopt_route_step(data, 12, 5); /* cut short */
+    CHECK(r.given == 0 && r.destination == 0 && r.width == 0 && r.router == 0 && r.next == 5);
+    r = dhcpopt_route_step(data, sizeof data, 6); /* 192 is too wide */
+    CHECK(r.given == 0 && r.destination == 0 && r.width == 0 && r.router == 0 && r.next == 6);
+    r = dhcpopt_route_step(data, sizeof data, SIZE_MAX);
+    CHECK(r.given == 0 && r.next == SIZE_MAX);
+    CHECK(dhcpopt_route_step(data, 0, 0).given == 0);
+
+    uint8_t nine[3 * DHCPOPT_GIVEN_ROUTE], out[20];
+    static const uint8_t wanted[20] = {0, 10, 0, 0, 1, 20, 192, 168, 16, 10, 0, 0, 2, 238, 238, 238, 238, 238, 238, 238};
+    dhcpopt_put_route(nine, 0, 0, 0x0A000001);
+    dhcpopt_put_route(nine + 9, 0xC0A81000, 20, 0x0A000002);
+    dhcpopt_put_route(nine + 18, 0xC0A81001, 20, 0x0A000002);
+    CHECK(nine[0] == 0 && nine[5] == 10 && nine[8] == 1 && nine[9] == 20 && nine[10] == 192 && nine[13] == 0 && nine[22] == 1 && nine[26] == 2);
+    memset(out, 238, sizeof out);
+    dhcpopt_filled f = dhcpopt_routes_write(nine, sizeof nine, out, sizeof out); /* a bit is set past the width */
+    CHECK(f.refusal == DHCPOPT_REFUSED_BAD_ROUTE && f.size == 0 && f.place == 2);
+    f = dhcpopt_routes_write(nine, 17, out, 0); /* cut short; 26 before 11 */
+    CHECK(f.refusal == DHCPOPT_REFUSED_BAD_ROUTE && f.size == 0 && f.place == 1);
+    f = dhcpopt_routes_write(nine, 0, out, sizeof out);
+    CHECK(f.refusal == DHCPOPT_REFUSED_BAD_ROUTE && f.size == 0 && f.place == 0);
+    f = dhcpopt_routes_write(nine, 18, out, 12);
+    CHECK(f.refusal == DHCPOPT_REFUSED_NO_ROOM && f.size == 0 && f.place == 12);
+    CHECK(out[0] == 238 && memcmp(out, out + 1, sizeof out - 1) == 0);
+    f = dhcpopt_routes_write(nine, 18, out, 13);
+    CHECK(f.refusal == DHCPOPT_NOT_REFUSED && f.size == 13 && f.place == 0 && memcmp(out, wanted, sizeof out) == 0);
+    nine[18] = 33;
+    nine[22] = 0;
+    CHECK(dhcpopt_routes_write(nine, sizeof nine, out, sizeof out).place == 2);
+}
+
+/* Whether 3 and 33 are ignored: 121 right, in pieces over two fields, broken by 8 and by 9, not known, absent; a message that is refused. */
+static void routes_ignored(void)
+{
+    static const dhcpopt_known alone = {{0, UINT64_C(1) << (121 - 64), 0, 0}};
+    size_t n = OVERLOADED("\x34\x01\x01\x79\x02\x00\x0a\xff", "\x79\x03\x00\x00\x01\xff", "");
+    dhcpopt_ignored i = dhcpopt_routes_ignored_known(message, n, dhcpopt_known_all());
+    CHECK(i.refusal == DHCPOPT_NOT_REFUSED && i.ignored == 1 && i.place == 0);
+    i = dhcpopt_routes_ignored(message, n, 0, UINT64_C(1) << (121 - 64), 0, 0);
+    CHECK(i.refusal == DHCPOPT_NOT_REFUSED && i.ignored == 1 && i.place == 0);
+    i = dhcpopt_routes_ignored_known(message, n, NONE);
+    CHECK(i.refusal == DHCPOPT_NOT_REFUSED && i.ignored == 0 && i.place == 0);
+    dhcpopt_answer a = dhcpopt_lookup_known(message, n, alone, DHCPOPT_CODE_CLASSLESS_STATIC_ROUTE);
+    CHECK(a.status == DHCPOPT_STATUS_PART && a.kind == DHCPOPT_KIND_ROUTES && a.length == 5 && a.several == 1 && a.whole == 5);
+    CHECK(a.refusal == 0 && a.field == DHCPOPT_FIELD_OPTIONS && a.number == 0 && a.place == 0 && a.offset == 3 && a.start == 245);
+    n = MESSAGE("\x35\x01\x05\x79\x06\x00\x0a\x00\x00\x01\x00\xff");
+    i = dhcpopt_routes_ignored_known(message, n, dhcpopt_known_all());
+    CHECK(i.refusal == DHCPOPT_REFUSED_BAD_LENGTH && i.ignored == 0 && i.place == 243);
+    message[245] = 33;
+    i = dhcpopt_routes_ignored_known(message, n, alone);
+    CHECK(i.refusal == DHCPOPT_REFUSED_BAD_VALUE && i.ignored == 0 && i.place == 243);
+    i = dhcpopt_routes_ignored_known(message, n, NONE);
+    CHECK(i.refusal == DHCPOPT_NOT_REFUSED && i.ignored == 0 && i.place == 0);
+    i = dhcpopt_routes_ignored_known(message, n - 1, dhcpopt_known_all());
+    CHECK(i.refusal == DHCPOPT_REFUSED_NO_END && i.ignored == 0 && i.place == n - 1);
+    i = dhcpopt_routes_ignored_known(message, 100, dhcpopt_known_all());
+    CHECK(i.refusal == DHCPOPT_REFUSED_TOO_SHORT && i.ignored == 0 && i.place == 100);
+    n = MESSAGE("\x03\x04\x0a\x00\x00\x01\xff");
+    i = dhcpopt_routes_ignored_known(message, n, dhcpopt_known_all());
+    CHECK(i.refusal == DHCPOPT_NOT_REFUSED && i.ignored == 0 && i.place == 0);
+}
+
 static void records(void)
 {
     static const uint8_t wanted[9] = {51, 0, 4, 0, 0, 14, 16, 238, 238};
@@ -462,6 +534,7 @@ static void names(void)
     CHECK(strcmp(dhcpopt_kind_name(DHCPOPT_KIND_ADDRESS_PAIRS), "address pairs") == 0 && strcmp(dhcpopt_kind_name(UINT32_MAX), "") == 0);
     CHECK(strcmp(dhcpopt_refusal_name(DHCPOPT_NOT_REFUSED), "") == 0 && strcmp(dhcpopt_refusal_name(UINT32_MAX), "") == 0);
     CHECK(strcmp(dhcpopt_refusal_name(5), "no end") == 0 && strcmp(dhcpopt_refusal_name(22), "no way back") == 0);
+    CHECK(strcmp(dhcpopt_refusal_name(26), "bad route") == 0 && strcmp(dhcpopt_kind_name(13), "routes") == 0);
     /* A code has a name exactly where the lookup, every code known, does not call it unknown. */
     for (unsigned c = 1; c < 255; c++) {
         size_t n = make("", 0, "", 0, "", 0);
@@ -620,6 +693,8 @@ int main(void)
     present();
     indexed();
     profile();
+    routes();
+    routes_ignored();
     records();
     write_sheet();
     write_long();

@@ -55,6 +55,7 @@ static const struct {
     [DHCPOPT_REFUSED_TOO_DEEP] = {"a group is of a fifth depth", "its tag byte"},
     [DHCPOPT_REFUSED_NO_WAY_BACK] = {"the file has a name or a group inside", "always 0"},
     [DHCPOPT_REFUSED_NO_REPLY] = {"the message type (53) is absent, broken, or neither offer nor acknowledgement", "always 0"},
+    [DHCPOPT_REFUSED_BAD_ROUTE] = {"a route has a width over 32, or set bits past its width", "its number, from 0"},
 };
 
 static const char *const PLANS[] = {
@@ -114,12 +115,33 @@ static void tell_refusal(const char *word, uint32_t refusal, size_t place)
         printf("%s %" PRIu32 " at %zu: %s", word, refusal, place, dhcpopt_refusal_name(refusal));
 }
 
+static void tell_address(uint32_t address)
+{
+    printf("%" PRIu32 ".%" PRIu32 ".%" PRIu32 ".%" PRIu32, address >> 24, address >> 16 & 255, address >> 8 & 255, address & 255);
+}
+
 static void tell_addresses(const uint8_t *list, size_t size)
 {
     const char *before = "";
     for (dhcpopt_address a = dhcpopt_address_step(list, size, 0); a.given; a = dhcpopt_address_step(list, size, a.next)) {
-        printf("%s%" PRIu32 ".%" PRIu32 ".%" PRIu32 ".%" PRIu32, before, a.address >> 24, a.address >> 16 & 255, a.address >> 8 & 255,
-               a.address & 255);
+        printf("%s", before);
+        tell_address(a.address);
+        before = ", ";
+    }
+}
+
+/* RFC 3442: a router of 0.0.0.0 is none; the destination is on the link itself. */
+static void tell_routes(const uint8_t *data, size_t size)
+{
+    const char *before = "";
+    for (dhcpopt_route r = dhcpopt_route_step(data, size, 0); r.given; r = dhcpopt_route_step(data, size, r.next)) {
+        printf("%s", before);
+        tell_address(r.destination);
+        printf("/%" PRIu32 " by ", r.width);
+        if (r.router == 0)
+            printf("the link");
+        else
+            tell_address(r.router);
         before = ", ";
     }
 }
@@ -173,6 +195,8 @@ static void tell_answer(size_t size, uint8_t code, const dhcpopt_answer *a, cons
     case DHCPOPT_STATUS_PART:
         if (a->kind == DHCPOPT_KIND_TEXT)
             tell_text(bytes_of(size, code, a), a->length);
+        else if (a->kind == DHCPOPT_KIND_ROUTES)
+            tell_routes(bytes_of(size, code, a), a->length);
         else
             tell_addresses(bytes_of(size, code, a), a->length);
         break;
@@ -182,6 +206,25 @@ static void tell_answer(size_t size, uint8_t code, const dhcpopt_answer *a, cons
     else if (a->field != DHCPOPT_FIELD_NONE)
         printf(", in %s", dhcpopt_field_name(a->field));
     printf("\n");
+}
+
+/* The routes, where there are any. Then what stands above of the router is not used: RFC 3442 has a client ignore 3 and 33. */
+static int read_routes(size_t size, const uint16_t *index, dhcpopt_known known)
+{
+    dhcpopt_answer a = dhcpopt_index_lookup_known(message, size, index, DHCPOPT_INDEX_COUNT, known, DHCPOPT_CODE_CLASSLESS_STATIC_ROUTE);
+    if (a.status == DHCPOPT_STATUS_ABSENT)
+        return DONE;
+    printf("routes (%d): ", DHCPOPT_CODE_CLASSLESS_STATIC_ROUTE);
+    tell_answer(size, DHCPOPT_CODE_CLASSLESS_STATIC_ROUTE, &a, "");
+    dhcpopt_ignored i = dhcpopt_routes_ignored_known(message, size, known);
+    if (i.refusal != DHCPOPT_NOT_REFUSED) {
+        printf("router (3) and static routes (33): not known whether to be ignored, ");
+        tell_refusal("refused", i.refusal, i.place);
+        printf("\n");
+        return REFUSED;
+    }
+    printf("router (3) and static routes (33): %s\n", i.ignored ? "ignored, the routes (121) stand for them" : "not ignored");
+    return DONE;
 }
 
 static int read_settings(size_t size, dhcpopt_known known)
@@ -209,7 +252,7 @@ static int read_settings(size_t size, dhcpopt_known known)
         if (a.status == DHCPOPT_STATUS_REFUSED || a.status == DHCPOPT_STATUS_BROKEN)
             result = REFUSED;
     }
-    return result;
+    return read_routes(size, index, known) == DONE ? result : REFUSED;
 }
 
 /* The header is the service's own. sname and file are cleared too: where the plan does not use them they stay as they are. */

@@ -1,10 +1,11 @@
 /*
- * The options of one DHCPv4 message (RFC 2131, RFC 2132, RFC 3396): a reader and a writer, for C11 and C++17 on x86-64 Linux.
+ * The options of one DHCPv4 message (RFC 2131, RFC 2132, RFC 3396, RFC 3442): a reader and a writer, for C11 and C++17 on x86-64 Linux.
  *
  * libdhcpopt_extra.a has dhcpopt_list, dhcpopt_options_end and dhcpopt_index_copy;
  * libdhcpopt_writer.a has dhcpopt_write, dhcpopt_vendor_write, dhcpopt_relay_write and the calls on grouped sheets (dhcpopt_check_grouped, dhcpopt_choose,
  * dhcpopt_group, dhcpopt_ungroup), libdhcpopt_index.a has dhcpopt_index_build and dhcpopt_index_lookup, libdhcpopt_profile.a has
- * dhcpopt_profile, and libdhcpopt_reader.a every other call, so a meter that only reads links the reader's archive alone.
+ * dhcpopt_profile, libdhcpopt_routes.a has the calls on classless routes (dhcpopt_route_step, dhcpopt_routes_write, dhcpopt_routes_ignored), and
+ * libdhcpopt_reader.a every other call, so a meter that only reads links the reader's archive alone.
  * libdhcpopt_captures.a has the tally of captures (dhcpopt_captures_begin, dhcpopt_captures_feed, dhcpopt_captures_report). docs/C-API.md
  * has an example of each call.
  *
@@ -41,9 +42,11 @@
  * 3.7: 8 (cookie server), 10 (impress server) and 34 (trailer encapsulation) have no kind any more: they are unknown, and written unjudged.
  * 3.8: dhcpopt_captures_begin, dhcpopt_captures_feed and dhcpopt_captures_report: the tally of a file of captures.
  * 3.9: dhcpopt_profile: whether a meter is to trust a reply, and which rules it breaks.
+ * 3.10: option 121 has a kind (RFC 3442); dhcpopt_route_step and dhcpopt_routes_write, for what is inside, and dhcpopt_routes_ignored: whether 3 and 33
+ * are ignored.
  */
 #define DHCPOPT_VERSION_MAJOR 3
-#define DHCPOPT_VERSION_MINOR 9
+#define DHCPOPT_VERSION_MINOR 10
 #define DHCPOPT_VERSION (100 * DHCPOPT_VERSION_MAJOR + DHCPOPT_VERSION_MINOR)
 
 #include <stddef.h>
@@ -91,6 +94,7 @@ enum dhcpopt_limit {
     DHCPOPT_LONGEST_ITEM = 255,     /* of data in a record that dhcpopt_vendor_write takes */
     DHCPOPT_LONGEST_VENDOR = 255,   /* that dhcpopt_vendor_write gives */
     DHCPOPT_LONGEST_RELAY = 255,    /* that dhcpopt_relay_write gives; a sub-option has at most 255 data bytes, too */
+    DHCPOPT_GIVEN_ROUTE = 9,        /* a route that dhcpopt_routes_write takes; in option 121 it has 5 to 9 bytes */
     DHCPOPT_LONGEST_GROUPED = 4100, /* a grouped file */
     DHCPOPT_LONGEST_LISTING = 16384, /* no listing is longer: enough for dhcpopt_list */
     DHCPOPT_DEEPEST_GROUP = 4       /* groups within groups, the outermost counted */
@@ -172,7 +176,8 @@ enum dhcpopt_limit {
     X(IRC_SERVER, 74, "IRC server")                                        \
     X(STREETTALK_SERVER, 75, "StreetTalk server")                          \
     X(STDA_SERVER, 76, "STDA server")                                      \
-    X(RELAY_AGENT_INFORMATION, 82, "relay agent information")
+    X(RELAY_AGENT_INFORMATION, 82, "relay agent information")              \
+    X(CLASSLESS_STATIC_ROUTE, 121, "classless static route")
 
 enum dhcpopt_code {
 #define DHCPOPT_ROW(name, code, option) DHCPOPT_CODE_##name = code,
@@ -235,7 +240,8 @@ enum dhcpopt_kind {
     DHCPOPT_KIND_INT32 = 9,         /* number, may be negative: option 2, seconds east of UTC */
     DHCPOPT_KIND_TEXT = 10,         /* part, without the trailing zeros. Not ended by a zero; each byte is 1 to 127 */
     DHCPOPT_KIND_OPAQUE = 11,       /* part */
-    DHCPOPT_KIND_RELAY = 12         /* part: option 82, for dhcpopt_relay_records */
+    DHCPOPT_KIND_RELAY = 12,        /* part: option 82, for dhcpopt_relay_records */
+    DHCPOPT_KIND_ROUTES = 13        /* part: option 121, for dhcpopt_route_step */
 };
 
 /*
@@ -243,8 +249,9 @@ enum dhcpopt_kind {
  * index also 18 and 19; writing gives 1, 2, 7 to 16 and 23.
  * dhcpopt_vendor_records gives 11 and 17, dhcpopt_vendor_write 10 to 13 and 16.
  * dhcpopt_relay_records gives 8 and 11, dhcpopt_relay_write 8, 11 to 13 and 16.
- * The calls on grouped sheets give 10, 11, 12, 16 and 20 to 22.
- * In reading a message 8 and 9 refuse nothing: they say why an option is broken, in a lookup's answer of DHCPOPT_STATUS_BROKEN.
+ * The calls on grouped sheets give 10, 11, 12, 16 and 20 to 22. dhcpopt_routes_write gives 11 and 26.
+ * In reading a message 8 and 9 refuse nothing: they say why an option is broken, in a lookup's answer of DHCPOPT_STATUS_BROKEN. Only
+ * dhcpopt_routes_ignored is refused by them, where option 121 is known and broken.
  */
 enum dhcpopt_refusal {
     DHCPOPT_NOT_REFUSED = 0,
@@ -274,7 +281,9 @@ enum dhcpopt_refusal {
     DHCPOPT_REFUSED_RELAY_NOT_LAST = 23,     /* tag 82 is not the last of the sheet: its byte */
     DHCPOPT_REFUSED_CAPTURE = 24,            /* in the report of captures alone: another tag, a record cut short, or message 1,000,001: the
                                                 record's first byte in the file */
-    DHCPOPT_REFUSED_NO_REPLY = 25            /* dhcpopt_profile, option 53 absent, broken, or neither offer nor acknowledgement: 0 */
+    DHCPOPT_REFUSED_NO_REPLY = 25,           /* dhcpopt_profile, option 53 absent, broken, or neither offer nor acknowledgement: 0 */
+    DHCPOPT_REFUSED_BAD_ROUTE = 26           /* dhcpopt_routes_write, a width over 32, set bits past the width, or not nine bytes: the number of
+                                                the first such route, from 0. No route at all: 0 */
 };
 
 /* Permissions to overload, and the plans that the writer may then use: the value of option 52, or 0 without it. */
@@ -343,6 +352,22 @@ typedef struct {
     dhcpopt_id circuit; /* the first sub-option 1, circuit id */
     dhcpopt_id remote;  /* the first sub-option 2, remote id */
 } dhcpopt_relay;
+
+/* A step in the routes of option 121: given is 1, with the route and the place behind it; or 0, all else is 0, and next is the place asked for. */
+typedef struct {
+    uint32_t given;
+    uint32_t destination; /* 192.0.2.0 is 0xC0000200. The bits past the width are 0 */
+    uint32_t width;       /* of the destination's mask, in bits: 0 to 32 */
+    uint32_t router;
+    size_t next;
+} dhcpopt_route;
+
+/* What dhcpopt_routes_ignored says: whether options 3 and 33 are ignored, or a refusal. */
+typedef struct {
+    uint32_t refusal; /* DHCPOPT_NOT_REFUSED, or place is where, and ignored is 0 */
+    uint32_t ignored; /* 1: the routes of option 121 stand for 3 and 33; 0: they do not */
+    size_t place;
+} dhcpopt_ignored;
 
 /* What dhcpopt_write did: the plan used (DHCPOPT_OVERLOAD_*), or a refusal. */
 typedef struct {
@@ -571,6 +596,32 @@ DHCPOPT_CALL dhcpopt_filled dhcpopt_index_copy(const uint8_t *message, size_t si
  */
 DHCPOPT_CALL dhcpopt_profile_answer dhcpopt_profile(const uint8_t *message, size_t size);
 
+/*
+ * The route at a place of option 121, classless static routes (RFC 3442): begin with at = 0, go on at next, until given is 0. bytes and size
+ * are those of the data, as for dhcpopt_vendor_records. A route is a width byte 0 to 32, the destination's bytes as far as the width goes, a
+ * byte that it only begins included, and four bytes of router. Bits past the width may be set in the data; in the answer they are 0.
+ * Done at the end, and at a route with a width over 32 or cut short: next is then less than size, and the lookup says broken. Any bytes and
+ * any place will do; past the end it is done. Never refused.
+ */
+DHCPOPT_CALL dhcpopt_route dhcpopt_route_step(const uint8_t *bytes, size_t size, size_t at);
+
+/*
+ * Writes routes, of nine bytes each (width, four of destination, four of router), to the front of out: what option 121 is to hold, as a
+ * record for dhcpopt_write. dhcpopt_route_step gives the same routes back, in their order.
+ * Bytes of out after the given ones stay as they were. A refusal leaves all of out as it was.
+ * Refused by 26 at the number of the first faulty route, from 0: a width over 32, a bit set past the width, or a last route that has not
+ * nine bytes; at 0 where there is none. Then by 11 at room. A room of size is always enough.
+ */
+DHCPOPT_CALL dhcpopt_filled dhcpopt_routes_write(const uint8_t *routes, size_t size, uint8_t *out, size_t room);
+
+/*
+ * Whether options 3 (router) and 33 (static route) are to be ignored, as RFC 3442 has it: exactly where dhcpopt_lookup of 121 with the same
+ * known set answers with its kind. Whether 3 and 33 are there, or known, does not matter.
+ * Refused as that lookup is: by 1 to 7, with places as in dhcpopt_lookup; then, where 121 is known and broken, by 8 or 9 at the code byte of
+ * its first piece. So a broken 121 is neither yes nor no: the sender meant routes that cannot be read.
+ */
+DHCPOPT_CALL dhcpopt_ignored dhcpopt_routes_ignored(const uint8_t *message, size_t size, uint64_t k0, uint64_t k1, uint64_t k2, uint64_t k3);
+
 /* A set of known codes. Begin with {{0, 0, 0, 0}} or with dhcpopt_known_all. */
 typedef struct {
     uint64_t words[4];
@@ -602,6 +653,11 @@ DHCPOPT_CALL static inline dhcpopt_answer dhcpopt_index_lookup_known(const uint8
 DHCPOPT_CALL static inline dhcpopt_extent dhcpopt_text_known(const uint8_t *message, size_t size, dhcpopt_known known, uint8_t code)
 {
     return dhcpopt_text(message, size, known.words[0], known.words[1], known.words[2], known.words[3], code);
+}
+
+DHCPOPT_CALL static inline dhcpopt_ignored dhcpopt_routes_ignored_known(const uint8_t *message, size_t size, dhcpopt_known known)
+{
+    return dhcpopt_routes_ignored(message, size, known.words[0], known.words[1], known.words[2], known.words[3]);
 }
 
 /* The name of a field, as the listing has it; that of no field is empty. */
@@ -655,6 +711,8 @@ static inline const char *dhcpopt_kind_name(uint32_t kind)
         return "opaque";
     case DHCPOPT_KIND_RELAY:
         return "relay";
+    case DHCPOPT_KIND_ROUTES:
+        return "routes";
     default:
         return "";
     }
@@ -739,6 +797,8 @@ static inline const char *dhcpopt_refusal_name(uint32_t refusal)
         return "capture";
     case DHCPOPT_REFUSED_NO_REPLY:
         return "no reply";
+    case DHCPOPT_REFUSED_BAD_ROUTE:
+        return "bad route";
     default:
         return "";
     }
@@ -877,6 +937,16 @@ DHCPOPT_CALL static inline dhcpopt_address_pair dhcpopt_address_pair_step(const 
     return pair;
 }
 
+/* Puts a route as dhcpopt_routes_write takes it into nine bytes, whatever it says: that call judges it. */
+DHCPOPT_NONNULL(1) static inline void dhcpopt_put_route(uint8_t nine[DHCPOPT_GIVEN_ROUTE], uint32_t destination, uint8_t width, uint32_t router)
+{
+    nine[0] = width;
+    for (int i = 0; i < 4; i++) {
+        nine[1 + i] = (uint8_t)(destination >> (24 - 8 * i) & 255);
+        nine[5 + i] = (uint8_t)(router >> (24 - 8 * i) & 255);
+    }
+}
+
 /*
  * A file of captures (libdhcpopt_captures.a): records of tag 1, two-byte length (the high byte first) and a message, end to end; one such
  * file behind another is such a file. The tally of it is kept in what the caller lends, for as long as the tally lasts: numbers (verdicts:
@@ -979,6 +1049,16 @@ DHCPOPT_MEMBER(dhcpopt_relay, size, 8, 8);
 DHCPOPT_MEMBER(dhcpopt_relay, place, 16, 8);
 DHCPOPT_MEMBER(dhcpopt_relay, circuit, 24, 16);
 DHCPOPT_MEMBER(dhcpopt_relay, remote, 40, 16);
+DHCPOPT_ASSERT(sizeof(dhcpopt_route) == 24);
+DHCPOPT_MEMBER(dhcpopt_route, given, 0, 4);
+DHCPOPT_MEMBER(dhcpopt_route, destination, 4, 4);
+DHCPOPT_MEMBER(dhcpopt_route, width, 8, 4);
+DHCPOPT_MEMBER(dhcpopt_route, router, 12, 4);
+DHCPOPT_MEMBER(dhcpopt_route, next, 16, 8);
+DHCPOPT_ASSERT(sizeof(dhcpopt_ignored) == 16);
+DHCPOPT_MEMBER(dhcpopt_ignored, refusal, 0, 4);
+DHCPOPT_MEMBER(dhcpopt_ignored, ignored, 4, 4);
+DHCPOPT_MEMBER(dhcpopt_ignored, place, 8, 8);
 DHCPOPT_ASSERT(sizeof(dhcpopt_checked) == 16);
 DHCPOPT_MEMBER(dhcpopt_checked, refusal, 0, 4);
 DHCPOPT_MEMBER(dhcpopt_checked, place, 8, 8);

@@ -16,10 +16,10 @@ sys.path.insert(0, str(ROOT / "tests"))
 from reader import row_of  # noqa: E402
 
 KINDS = {"address": "ADDRESS", "addresses": "ADDRESS_LIST", "pairs": "ADDRESS_PAIRS", "flag": "FLAG", "octet": "BYTE", "number16": "UINT16",
-         "numbers16": "UINT16_LIST", "unsigned32": "UINT32", "signed32": "INT32", "text": "TEXT", "opaque": "OPAQUE", "relay": "RELAY"}
+         "numbers16": "UINT16_LIST", "unsigned32": "UINT32", "signed32": "INT32", "text": "TEXT", "opaque": "OPAQUE", "relay": "RELAY", "routes": "ROUTES"}
 IN_WORDS = {"one address": "ADDRESS", "address list": "ADDRESS_LIST", "address pairs": "ADDRESS_PAIRS", "flag": "FLAG", "one byte": "BYTE",
             "16-bit number": "UINT16", "list of 16-bit numbers": "UINT16_LIST", "unsigned 32-bit number": "UINT32",
-            "signed 32-bit number": "INT32", "text": "TEXT", "opaque": "OPAQUE", "relay information": "RELAY"}
+            "signed 32-bit number": "INT32", "text": "TEXT", "opaque": "OPAQUE", "relay information": "RELAY", "classless routes": "ROUTES"}
 checked = 0
 wrong = []
 
@@ -70,6 +70,13 @@ def filled(data):
     return data == b""
 
 
+def routed(data):
+    """Whether widths to 32, so many bits of destination and four bytes of router end where the data ends."""
+    while data and data[0] <= 32 and 8 * (len(data) - 5) >= data[0]:
+        data = data[5 + (data[0] + 7) // 8:]
+    return data == b""
+
+
 def value_right(rule, kind, data):
     if rule.startswith("any"):
         return True
@@ -80,6 +87,8 @@ def value_right(rule, kind, data):
         return all(first <= byte <= last for byte in data.rstrip(b"\0"))
     if kind == "RELAY":
         return rule.startswith("sub-options fill it") and filled(data)
+    if kind == "ROUTES":
+        return rule.startswith("routes fill it exactly") and routed(data)
     numbers = [int.from_bytes(data[i:i + 2], "big") for i in range(0, len(data), 2)] if kind.startswith("UINT16") else list(data)
     if kind == "UINT16_LIST":
         return all(n >= 68 for n in numbers) and numbers == sorted(numbers)
@@ -105,6 +114,8 @@ def samples(kind):
         return [bytes(data) for v in range(256) for data in ([v, 97], [97, v, 98], [97, v], [97, v, 0, 0])]
     if kind == "RELAY":
         return [bytes(data) for v in range(256) for data in ([v, 0], [0, v], [1, v, 9], [1, 1, v, v], [1, 0, v], [v, 1, 7, 2, 0])]
+    if kind == "ROUTES":
+        return [bytes([v, *[x] * n]) for v in range(256) for x in (0, 33) for n in range(4, 20)]
     return []
 
 

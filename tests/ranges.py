@@ -76,7 +76,7 @@ def main():
         if by_words(*serving[-1], c) != rows.get(c, 0):
             print(f"code {c}: {by_words(*serving[-1], c)} for {rows.get(c, 0)}")
             wrong += 1
-    above = {number["RELAY"]: number["ROW_82"]}
+    above = {number["RELAY"]: number["ROW_82"], number["ROUTES"]: number["ROW_121"]}
     for c in range(last + 1, 256):
         if above.get(c, 0) != rows.get(c, 0):
             print(f"code {c}: {above.get(c, 0)} for {rows.get(c, 0)}")

@@ -1,4 +1,4 @@
-"""A reader of messages of its own, written from document 01 and requests 01 to 03, 09 and 10 of document 02 alone."""
+"""A reader of messages of its own, written from document 01 and requests 01 to 03, 09, 10 and 14 of document 02 alone."""
 
 from typing import NamedTuple
 
@@ -17,7 +17,23 @@ def split(data):
     return met, None
 
 
-# The kinds as document 01 and request 09 list them, without the rows that request 10 retired: name, codes, which lengths are right, which data is right.
+def routes(data):
+    """The routes of an option 121 as (destination, width, router, place behind it), up to the first that is faulty; and the number of that one's fault, or None."""
+    at, met = 0, []
+    while at < len(data):
+        width = data[at]
+        if width > 32:
+            return met, 9
+        end = at + 1 + (width + 7) // 8 + 4  # the width's whole and begun bytes, and a router
+        if end > len(data):
+            return met, 8
+        bits = "".join(f"{byte:08b}" for byte in data[at + 1:end - 4])[:width]  # those past the width are not taken
+        met.append((int(bits.ljust(32, "0"), 2), width, int.from_bytes(data[end - 4:end], "big"), end))
+        at = end
+    return met, None
+
+
+# The kinds as document 01 and requests 09 and 14 list them, without the rows that request 10 retired: name, codes, which lengths are right, which data is right.
 KINDS = [
     ("address", "1 16 28 32 50 54", lambda c, n: n == 4, None),
     ("addresses", "3-7 9 11 41 42 44 45 48 49 65 69-76 68", lambda c, n: n % 4 == 0 and (n > 0 or c == 68), None),
@@ -39,6 +55,7 @@ KINDS = [
     ("opaque", "43 47 55 60", lambda c, n: n > 0, None),
     ("opaque", "61", lambda c, n: n > 1, None),
     ("relay", "82", lambda c, n: n > 1, lambda c, d: split(d)[1] is None),
+    ("routes", "121", lambda c, n: n >= 5, lambda c, d: routes(d)[1] is None),
 ]
 
 
@@ -52,12 +69,13 @@ def row_of(code):
 
 
 def fault(code, data):
-    """The number of the rule of its row that the data of a code breaks, or None: 8 for the length, 9 for the data. Sub-options that do not fill it are an 8."""
+    """The number of the rule of its row that the data of a code breaks, or None: 8 for the length, 9 for the data. Sub-options that do not fill it are an 8,
+    and of the routes the first faulty one tells."""
     row = row_of(code)
     if row and not row[2](code, len(data)):
         return 8
     if row and row[3] and not row[3](code, data):
-        return 8 if code == 82 else 9
+        return {82: 8, 121: routes(data)[1]}.get(code, 9)
     return None
 
 
@@ -144,7 +162,7 @@ def records(options):
 
 EVERY = (1 << 256) - 1  # every code known: code c at bit c
 MEMBERS = "status kind refusal field number place offset start length whole several".split()
-NAMES = "address addresses pairs flag octet number16 numbers16 unsigned32 signed32 text opaque relay".split()
+NAMES = "address addresses pairs flag octet number16 numbers16 unsigned32 signed32 text opaque relay routes".split()
 NUMBERS = {"address", "flag", "octet", "number16", "unsigned32", "signed32"}
 
 

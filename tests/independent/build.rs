@@ -8,9 +8,10 @@ include!("build/variants.rs");
 include!("build/relay_variants.rs");
 include!("build/profile_variants.rs");
 include!("build/captures_variants.rs");
+include!("build/route_variants.rs");
 
 /// The files of src/rules that are copied, each with those it is used by.
-const FILES: [(&str, &[&str]); 8] = [
+const FILES: [(&str, &[&str]); 9] = [
     ("groups.rs", &["groups.rs"]),
     ("kinds.rs", &["kinds.rs", "reading.rs", "writing.rs"]),
     ("reading.rs", &["reading.rs"]),
@@ -19,6 +20,7 @@ const FILES: [(&str, &[&str]); 8] = [
     ("writing.rs", &["writing.rs"]),
     ("vendor.rs", &["vendor.rs"]),
     ("relay.rs", &["relay.rs"]),
+    ("routes.rs", &["routes.rs"]),
 ];
 
 fn main() {
@@ -34,7 +36,7 @@ fn link() {
     let package = env::var("CARGO_MANIFEST_DIR").unwrap();
     let archives = format!("{package}/../../target/staticlib");
     println!("cargo:rustc-link-search=native={archives}");
-    for name in ["reader", "index", "profile", "writer", "captures"] {
+    for name in ["reader", "index", "profile", "routes", "writer", "captures"] {
         println!("cargo:rerun-if-changed={archives}/libdhcpopt_{name}.a");
     }
 }
@@ -43,7 +45,7 @@ fn link() {
 fn variants() -> String {
     let mut text = String::new();
     let mut list = String::new();
-    let all = || VARIANTS.iter().chain(RELAY_VARIANTS).chain(PROFILE_VARIANTS);
+    let all = || VARIANTS.iter().chain(RELAY_VARIANTS).chain(PROFILE_VARIANTS).chain(ROUTE_VARIANTS);
     for (i, variant) in all().enumerate() {
         writeln!(text, "#[allow(warnings, clippy::all)]\nmod variant_{i} {{").unwrap();
         writeln!(text, "pub use independent::rules::answers;").unwrap();

@@ -58,7 +58,7 @@ EDITS = [
     ("82 of no data is right", "reader.py", "", '("relay", "82", lambda c, n: n > 1', '("relay", "82", lambda c, n: True'),
     ("82 needs 3 bytes", "reader.py", "", '("relay", "82", lambda c, n: n > 1', '("relay", "82", lambda c, n: n > 2'),
     ("83 has the row", "reader.py", "", '("relay", "82", ', '("relay", "82 83", '),
-    ("82 is broken by 9", "reader.py", "fault", "return 8 if code == 82 else 9", "return 9"),
+    ("82 is broken by 9", "reader.py", "fault", "{82: 8, 121", "{121"),
     ("82 is opaque", "reader.py", "", '("relay", "82", ', '("opaque", "82", '),
     ("82 is known always", "vectors/check.py", "content", "code not in known", "code not in (82, *known)"),
     ("82's place is its data's", "vectors/check.py", "content", "{number} {at}", "{number} {at + 2 * (code == 82)}"),

@@ -1,5 +1,5 @@
 #!/usr/bin/env python3
-"""Write every sheet of crates/sheets/stdin by document 01 and requests 02, 03 and 09 anew and hold every line of crates/sheets/stdout to it."""
+"""Write every sheet of crates/sheets/stdin by document 01 and requests 02, 03, 09 and 14 anew and hold every line of crates/sheets/stdout to it."""
 
 import sys
 from pathlib import Path

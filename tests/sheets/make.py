@@ -766,12 +766,65 @@ RELAY_INFORMATION = [
      "plan 1 | options 34 01 01" + option(82, "09 FF" + ramp(253)) + "FF zeros 0 | file " + option(82, "FE FF 0A 20" + ramp(32)) + "FF zeros 89 | accepted 3"),
 ]
 
-# The shortest right data for each code that has a row; in code order, so that 1 stands before 3, and 82 is last.
+# --- Option 121, classless routes (request 14) --------------------------------------------------------------------------
+
+GATE = "0A 4D 00 01"                 # a router
+NET = f"18 C0 00 02 {GATE}"          # 192.0.2.0/24: 8 bytes
+DEFAULT = f"00 {GATE}"               # 0.0.0.0/0: 5 bytes
+HOST = f"20 C0 00 02 07 {GATE}"      # 192.0.2.7/32: 9 bytes
+WIDE = f"21 C0 00 02 07 {GATE}"      # 33: 9 bytes
+ROUTES = record(121, DEFAULT)        # 8 bytes
+
+CLASSLESS_ROUTES = [
+    ("121 alone", 0, 300, ROUTES, f"plan 0 | options 79 05 {DEFAULT} FF zeros 52 | accepted 1"),
+    ("121 of three routes, before and behind others", 0, 300, TYPE + record(121, NET + DEFAULT + HOST) + LEASE,
+     f"plan 0 | options 35 01 05 79 16 {NET}{DEFAULT}{HOST} 33 04 00 00 0E 10 FF zeros 26 | accepted 3"),
+    ("121 before 82, which is last", 0, 300, ROUTES + RELAY_2, f"plan 0 | options 79 05 {DEFAULT} 52 02 01 00 FF zeros 48 | accepted 2"),
+    ("121 behind 82", 0, 300, RELAY_2 + ROUTES, "refused 23 0"),
+    ("121 beside 3 and 33: all are written", 0, 300, MASK + ROUTER + ROUTES + record(33, "0A0000010A4D0001"),
+     f"plan 0 | options 01 04 FF FF FF 00 03 04 0A 00 00 01 79 05 {DEFAULT} 21 08 0A0000010A4D0001 FF zeros 30 | accepted 4"),
+    ("120 and 122 are not judged", 0, 300, record(120, "21") + ROUTES + record(122, "21"),
+     f"plan 0 | options 78 01 21 79 05 {DEFAULT} 7A 01 21 FF zeros 46 | accepted 3"),
+    # Only the writer of routes asks for cleared bits: here the bytes stand as they were given.
+    ("121: bits past the width are written", 0, 300, record(121, f"01 FF {GATE} 19 C0 00 02 FF {GATE}"),
+     f"plan 0 | options 79 0F 01 FF {GATE} 19 C0 00 02 FF {GATE} FF zeros 42 | accepted 1"),
+    # "8 for a length under 5, then, the earlier route first, 9 for a width over 32 and 8 for a route cut short"
+    ("8: 121 without data", 0, 300, TYPE + record(121, ""), "refused 8 4"),
+    ("8 before 9: one byte, 33", 0, 300, record(121, "21"), "refused 8 0"),
+    ("8 before 9: four bytes, 33 each", 0, 300, record(121, "21 21 21 21"), "refused 8 0"),
+    ("9: a wide width", 0, 300, TYPE + record(121, WIDE), "refused 9 4"),
+    ("9: a wide width behind a route, at the tag", 0, 300, TYPE + LEASE + record(121, NET + WIDE), "refused 9 11"),
+    ("9: a lone 33 behind a route", 0, 300, record(121, NET + "21"), "refused 9 0"),
+    ("8: a lone 32 behind a route", 0, 300, record(121, NET + "20"), "refused 8 0"),
+    ("9: a wide one, then one cut short", 0, 300, record(121, WIDE + "18 C0"), "refused 9 0"),
+    ("8: one cut short, whose bytes are 33", 0, 300, record(121, DEFAULT + "18 21 21 21 21 21"), "refused 8 0"),
+    ("7 before 8: 121 again, broken", 0, 300, ROUTES + record(121, ""), "refused 7 8"),
+    ("12 before 8", 0, 300, "79 00 05 00 0A 4D 00", "refused 12 0"),
+    ("13 before 9", 0, 300, record(121, "21" * 1025), "refused 13 0"),
+    ("9 before 14", 0, 300, ROUTER + MASK + record(121, WIDE), "refused 9 14"),
+    ("9 before 23", 0, 300, RELAY + record(121, WIDE), "refused 9 10"),
+    ("9 before 11", 0, 240, record(121, WIDE), "refused 9 0"),
+    ("11: 121, and a byte short", 0, 247, ROUTES, "refused 11 247"),
+    ("121, just enough", 0, 248, ROUTES, f"plan 0 | options 79 05 {DEFAULT} FF zeros 0 | accepted 1"),
+    # A long 121 is split as any other, also within a route.
+    ("121 of 261 bytes", 0, 600, record(121, HOST * 29), "plan 0 | options " + pieces(121, HOST * 29, 255, 6) + "FF zeros 94 | accepted 2"),
+    ("121 of 1,024 bytes", 0, 1472, record(121, HOST * 111 + DEFAULT * 5), "plan 0 | options " + pieces(121, HOST * 111 + DEFAULT * 5, 255, 255, 255, 255, 4)
+     + "FF zeros 197 | accepted 5"),
+    ("13: 121 of 114 right routes, 1,026 bytes", 0, 1472, record(121, HOST * 114), "refused 13 0"),
+    ("9: 121 of 261 bytes, the last route wide", 0, 600, record(121, HOST * 28 + WIDE), "refused 9 0"),
+    ("8: 121 of 260 bytes, the last route cut short", 0, 600, record(121, (HOST * 29)[:-2]), "refused 8 0"),
+    ("121 in file", 1, 247, TYPE + record(121, NET), f"plan 1 | options 34 01 01 35 01 05 FF zeros 0 | file 79 08 {NET} FF zeros 117 | accepted 3"),
+    ("121 in sname", 2, 247, TYPE + record(121, NET), f"plan 2 | options 34 01 02 35 01 05 FF zeros 0 | sname 79 08 {NET} FF zeros 53 | accepted 3"),
+    ("121 in pieces over options and file, cut in a route", 1, 501, record(121, HOST * 29),
+     "plan 1 | options 34 01 01" + option(121, HOST * 28 + "20 C0 00") + "FF zeros 0 | file " + option(121, f"02 07 {GATE}") + "FF zeros 119 | accepted 3"),
+]
+
+# The shortest right data for each code that has a row; in code order, so that 1 stands before 3. 82 is to be the last of a sheet.
 SHORTEST = {c: "01020304" for c in ADDRESS + ADDRESSES + UNSIGNED32 + [2]}
 SHORTEST.update({c: "01" for c in FLAG + TEXT + OPAQUE + [23, 37, 46, 53]})
 SHORTEST.update({13: "0102", 22: "0240", 26: "0044", 57: "0240", 25: "0044", 61: "0102", 68: "",
-                 21: "0102030405060708", 33: "0102030405060708", 82: "0900"})
-ROWS = sorted(SHORTEST)
+                 21: "0102030405060708", 33: "0102030405060708", 82: "0900", 121: "000A4D0001"})
+ROWS = sorted(SHORTEST, key=lambda c: (c == 82, c))
 # Beside 52 and END the options have 1,228 bytes. Every tag but 52 has a record; 254 is for file and 82, which is to be last, for sname; the first three codes without
 # a row take as data what the others leave of the 1,228 bytes. Counts and places are counted here, since codes get and lose rows.
 FILLERS, IN_FILE, IN_SNAME = UNKNOWN[:3], 254, 82
@@ -815,7 +868,7 @@ MANY = [
      "plan 0 | options 0C FF" + "61" * 255 + "3D FF" + ramp(255) + "19 FE" + "0044" * 127 + "FF zeros 0 | accepted 3"),
 ]
 
-# Document 01, "The kinds, by code", and request 09: codes, right data, data of a wrong length (8), data of a wrong value (9).
+# Document 01, "The kinds, by code", and requests 09 and 14: codes, right data, data of a wrong length (8), data of a wrong value (9).
 KINDS = [
     ("one address", ADDRESS, ["00000000", "FFFFFFFF"], ["", "01", "010203", "0102030405", "0102030405060708"], []),
     ("address list", ADDRESSES, ["01020304", "00" * 8], ["", "01", "010203", "0102030405", "010203040506"], []),
@@ -839,6 +892,9 @@ KINDS = [
     ("opaque", OPAQUE, ["00", "010203", "000000", "80FF0061"], [""], []),
     ("10: retired row", RETIRED, ["", "02", "0102", "01020304", "0102030405"], [], []),
     ("opaque of two or more", [61], ["0102", "000000", "80FF0061"], ["", "01"], []),
+    ("classless routes", [121], ["000A4D0001", "01FF0A4D0001", "18C000020A4D0001000A4D0001", "20C00002070A4D0001", "09FFFF0A4D0001"],
+     ["", "00", "21", "000A4D00", "21212121", "010A4D0001", "20C00002070A4D00", "000A4D000100", "18C000020A4D000120"],
+     ["21C00002070A4D0001", "FF0A4D0001", "000A4D000121", "80C00002070A4D0001", "18C000020A4D0001FF"]),
     ("relay information", [82], ["0100", "00000000", "FF01FF", "01020A0B02010C"], ["", "01", "FF", "010002", "01020A", "0100FF"], []),
 ]
 
@@ -903,7 +959,7 @@ PLAN_2 = without_plan_2()
 
 
 def main():
-    hand = OWN_CASES + LENGTHS + PERMISSIONS + PLANS + CONTENT + FAULTS + ROUTER_FIRST + SHEETS + LONG_RECORDS + RELAY_INFORMATION + MANY + PLAN_2
+    hand = OWN_CASES + LENGTHS + PERMISSIONS + PLANS + CONTENT + FAULTS + ROUTER_FIRST + SHEETS + LONG_RECORDS + RELAY_INFORMATION + CLASSLESS_ROUTES + MANY + PLAN_2
     cases = hand + kind_cases()
     given, printed = b"", []
     for reason, permission, length, text, expected, *first in cases:

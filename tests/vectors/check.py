@@ -1,5 +1,5 @@
 #!/usr/bin/env python3
-"""Read crates/vectors/stdin by document 01 and requests 01 to 03, 07, 09 and 13 anew, and hold every line of crates/vectors/stdout to it."""
+"""Read crates/vectors/stdin by document 01 and requests 01 to 03, 07, 09, 13 and 14 anew, and hold every line of crates/vectors/stdout to it."""
 
 import struct
 import sys

@@ -8,3 +8,5 @@ pub mod Shown
 pub mod Written
 -- The reply profile
 pub mod Profiled
+-- Classless routes
+pub mod Routed

@@ -3,3 +3,4 @@ pub mod Refusals
 pub mod RelayRefusals
 pub mod Answers
 pub mod Sheets
+pub mod Routes

@@ -9,6 +9,7 @@ ghost use Rattle.c_theorems.specs.Refusals.{WriteRefusedForC, NoRoomForC
 ghost use Rattle.c_theorems.specs.Answers.{LookupForC, AbsentForC, IndexLookupForC, DataForC, CopyForC, PresentForC, AddressesForC, ProfileForC, SameNamedForC};
 ghost use Rattle.c_theorems.specs.Sheets.{SheetBackForC, Demand3ForC, OthersForC};
 ghost use Rattle.c_theorems.specs.RelayRefusals.{RelayRecordsRefusedForC, RelayWriteRefusedForC, RelayRefusedBy, RelayWriteRow};
+ghost use Rattle.c_theorems.specs.Routes.{RoutesWriteRefusedForC, IgnoredRefusedForC, IgnoredForC, RouteStepForC, RoutesForC, RoutesBackForC, RoutesWriteRow, IgnoredRefusedBy, IgnoredToldRight, RouteTold};
 ghost use Rattle.options.specs.ReadingClaims.{IsAccepted};
 ghost use Rattle.options.specs.GroupedFile.{FirstOf};
 ghost use Rattle.options.specs.GroupedClaims.{ChoiceRow, MoveRow, BackRow};
@@ -21,13 +22,15 @@ use dhcpopt_reader::PlainAnswer;
 use dhcpopt_reader::PlainCodes;
 use dhcpopt_reader::PlainExtent;
 use dhcpopt_reader::PlainRelay;
+use dhcpopt_routes::PlainIgnored;
+use dhcpopt_routes::PlainRoute;
 use dhcpopt_writer::PlainWrote;
 use filled::PlainFilled;
 use groups::PlainChecked;
 
 // Demand 1, of the calls that read and of those that write; then demands 2 and 3.
 pub fn proved()
-    ensures { λ _. ⌜ LookupRefusedForC × IndexLookupRefusedForC × DataRefusedForC × TextRefusedForC × PresentRefusedForC × RecordsRefusedForC × CopyRefusedForC × VendorRecordsRefusedForC × BuildRefusedForC × WriteRefusedForC × NoRoomForC × VendorWriteRefusedForC × CheckRefusedForC × ChooseRefusedForC × GroupRefusedForC × UngroupRefusedForC × RelayRecordsRefusedForC × RelayWriteRefusedForC × LookupForC × AbsentForC × IndexLookupForC × DataForC × CopyForC × PresentForC × AddressesForC × ProfileRefusedForC × ProfileForC × SameNamedForC × SheetBackForC × Demand3ForC × OthersForC ⌝ }
+    ensures { λ _. ⌜ LookupRefusedForC × IndexLookupRefusedForC × DataRefusedForC × TextRefusedForC × PresentRefusedForC × RecordsRefusedForC × CopyRefusedForC × VendorRecordsRefusedForC × BuildRefusedForC × WriteRefusedForC × NoRoomForC × VendorWriteRefusedForC × CheckRefusedForC × ChooseRefusedForC × GroupRefusedForC × UngroupRefusedForC × RelayRecordsRefusedForC × RelayWriteRefusedForC × LookupForC × AbsentForC × IndexLookupForC × DataForC × CopyForC × PresentForC × AddressesForC × ProfileRefusedForC × ProfileForC × SameNamedForC × SheetBackForC × Demand3ForC × OthersForC × RoutesWriteRefusedForC × IgnoredRefusedForC × IgnoredForC × RouteStepForC × RoutesForC × RoutesBackForC ⌝ }
 {}
 
 // ---- The calls themselves: each is called here, and what its contract gives is what the statements above speak of.
@@ -146,4 +149,22 @@ pub fn relay_write_call(s: &[u8], out: &mut [u8]) -> PlainFilled
     ensures { λ r. ⌜ FillRefused (RelayWriteRow (now (s .entry)) (now (out .entry))) (now (out .entry)) r (now (out .exit)) ⌝ }
 {
     dhcpopt_writer::dhcpopt_relay_write(s, out)
+}
+
+pub fn route_step_call(bytes: &[u8], at: usize) -> PlainRoute
+    ensures { λ r. ⌜ RouteTold (now (bytes .entry)) at r ⌝ }
+{
+    dhcpopt_routes::dhcpopt_route_step(bytes, at)
+}
+
+pub fn routes_write_call(s: &[u8], out: &mut [u8]) -> PlainFilled
+    ensures { λ r. ⌜ FillRefused (RoutesWriteRow (now (s .entry)) (now (out .entry))) (now (out .entry)) r (now (out .exit)) ⌝ }
+{
+    dhcpopt_routes::dhcpopt_routes_write(s, out)
+}
+
+pub fn routes_ignored_call(m: &[u8], k0: u64, k1: u64, k2: u64, k3: u64) -> PlainIgnored
+    ensures { λ r. ⌜ IgnoredRefusedBy (known k0 k1 k2 k3) (now (m .entry)) r × IgnoredToldRight (known k0 k1 k2 k3) (now (m .entry)) r ⌝ }
+{
+    dhcpopt_routes::dhcpopt_routes_ignored(m, k0, k1, k2, k3)
 }

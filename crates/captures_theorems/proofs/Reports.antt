@@ -12,7 +12,7 @@ use lib.Seq.{drop-cons}
 use lib.Dec.{eqb, ltb}
 use borrow.Author.Tests.{eqb-true, eqb-false}
 use Rattle.options.specs.Message.{Opt, bytes, Standing, In, OptionAt, endToEnd}
-use Rattle.options.specs.Kinds.{Kind, address, addresses, pairs, flag, octet, number16, numbers16, unsigned32, signed32, text, opaque, relay, Row, Value, number, kinds, rowOf, first32, twosComplement, fault, unless, meaning, judged, judgedBy}
+use Rattle.options.specs.Kinds.{Kind, address, addresses, pairs, flag, octet, number16, numbers16, unsigned32, signed32, text, opaque, relay, routes, Row, Value, number, kinds, rowOf, first32, twosComplement, fault, unless, meaning, judged, judgedBy}
 use Rattle.options.specs.KindClaims.{AllBytes}
 use Rattle.options.specs.Answers.{decimal, blank, newline, acceptedWord, refusedWord, acceptedLine, refusedLine, known, everyCode}
 use Rattle.options.specs.ReadingClaims.{ContentIs, is-known}
@@ -213,6 +213,7 @@ meaning-below signed32 d k n b e = twos-below (first32 d) n (omega (arith, byte-
 meaning-below text d k n b e = clash (cc)
 meaning-below opaque d k n b e = clash (cc)
 meaning-below relay d k n b e = clash (cc)
+meaning-below routes d k n b e = clash (cc)
 
 value-below : (r : Option Row) (d : List ℕ) (k : Kind) (n : ℕ) → AllBytes d → judgedBy r d ≡ number k (pos n) → n < 4294967296
 unfolding judged

@@ -1,15 +1,15 @@
 -- An entry is used by the tests that the code makes; and what is answered by the number of a row. Assumes nothing.
 use mathlib.Core.Path.{_≡_, refl, sym, ap, ap₂, _∙_, subst}
-use mathlib.Core.Bool.{Bool, cond}
+use mathlib.Core.Bool.{Bool, true, false, cond, false≢true}
 use mathlib.Core.List.{List, [], _∷_, _++_}
 use mathlib.Core.Option.{Option, none, some}
-use Prim.Native.Nat.{ℕ, zero, suc, _+_, _-_, _≤_, _<_}
+use Prim.Native.Nat.{ℕ, zero, suc, _+_, _-_, _%_, _≤_, _<_}
 use native.Mathlib.Omega.{arith}
 use native.Mathlib.Decide.{decLt}
-use lib.Dec.{eqb, ltb, leb}
+use lib.Dec.{T, eqb, ltb, leb}
 use lib.ListN.{length, getD, take, drop, length-append, length-take, length-drop, take-append-drop}
 use lib.Seq.{drop-cons, length-take-le, getD-drop, getD-take}
-use borrow.Author.Tests.{ne-eqb, lt-ltb, le-ltb, le-leb, lt-leb}
+use borrow.Author.Tests.{ne-eqb, lt-ltb, le-ltb, le-leb, lt-leb, leb-true}
 use Rattle.options.specs.Message.{Field, options, file, sname, start, bytes, Opt, opt}
 use Rattle.options.specs.Kinds.{unless, meaning, kinds}
 use Rattle.options.specs.Answers as asked
@@ -17,7 +17,8 @@ use Rattle.options.specs.Index.{usedEntry, entryAnswer}
 use Rattle.options.specs.IndexClaims.{Usable}
 use Rattle.theorems.proofs.Usable.{usable-used, used-usable}
 use Rattle.theorems.proofs.Lengths.{field-part}
-use Rattle.kinds.specs.Numbers.{kindAt, kindNumbered, rowAt, faultNumbered, lengthFits, valueFaultIn}
+use Rattle.kinds.specs.Numbers.{kindAt, kindNumbered, rowAt, faultNumbered, lengthFits, valueFaultIn, isList}
+use Rattle.kinds.proofs.ByKind.{listless, no-list}
 use Rattle.kinds.proofs.Numbering.{judged-as, fault-rules}
 use Rattle.lookup.specs.Found.{contentBy}
 use Rattle.message.specs.Fields.{fieldOf, codedField}
@@ -35,6 +36,17 @@ pub by-rules : (n : ℕ) (d : List ℕ) → (n ≡ 0 → ⊥) → contentBy n d
     ≡ asked.known (unless (cond (lengthFits (rowAt n) (length d)) (valueFaultIn (rowAt n) d) 8) (meaning (kindAt (kindNumbered n)) d))
 unfolding contentBy faultNumbered
 by-rules n d z = rw (ne-eqb n 0 z) (ap asked.known (judged-as n d ∙ ap (λ (x : ℕ). unless x (meaning (kindAt (kindNumbered n)) d)) (sym (fault-rules (rowAt n) d))))
+
+-- a list whose kind is neither 12 nor 13 is of a kind below
+pub short-list : (n : ℕ) → n < 256 → (n % 16 ≡ 12 → ⊥) → (n % 16 ≡ 13 → ⊥) → isList (rowAt n) ≡ true → leb 12 (n % 16) ≡ false
+short-list n h x y e = go (leb 12 (n % 16)) refl
+  where
+    listless-high : (k : ℕ) → 12 ≤ k → (k ≡ 12 → ⊥) → (k ≡ 13 → ⊥) → T (listless k)
+    listless-high k l a b = rw (ne-eqb k 3 (λ q. omega (arith, q, l)), ne-eqb k 7 (λ q. omega (arith, q, l)), ne-eqb k 10 (λ q. omega (arith, q, l)), ne-eqb k 12 a, ne-eqb k 13 b) tt
+
+    go : (b : Bool) → leb 12 (n % 16) ≡ b → leb 12 (n % 16) ≡ false
+    go true q = let z : isList (rowAt n) ≡ false = no-list n h (listless-high (n % 16) (leb-true 12 (n % 16) q) x y) in absurd (false≢true (sym z ∙ e))
+    go false q = q
 
 -- ---- a field, and where it ends
 

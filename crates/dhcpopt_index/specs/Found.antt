@@ -3,7 +3,7 @@ use mathlib.Core.Bool.{cond}
 use mathlib.Core.List.{List}
 use Prim.Native.Nat.{ℕ, _+_, _-_}
 use lib.Dec.{eqb, ltb, leb}
-use Rattle.options.specs.Kinds.{text, relay, unless, ascii, suboptions, valueFault, meaning}
+use Rattle.options.specs.Kinds.{text, relay, routes, unless, ascii, suboptions, routed, valueFault, meaning}
 use Rattle.options.specs.Answers as asked
 use Rattle.message.specs.Fields.{fieldOf}
 use Rattle.message.specs.declared.Field.the-variants.{Options, File, Sname}
@@ -19,6 +19,10 @@ textContent d = asked.known (unless (valueFault ascii d) (meaning text d))
 -- what is answered of relay information with the data d, if its length is right
 abbrev pub relayContent : List ℕ → asked.Content
 relayContent d = asked.known (unless (valueFault suboptions d) (meaning relay d))
+
+-- and of classless routes
+abbrev pub routesContent : List ℕ → asked.Content
+routesContent d = asked.known (unless (valueFault routed d) (meaning routes d))
 
 -- the field that holds the place e of a message of n bytes; where none does, one that has ended before it
 abbrev pub spanAt : ℕ → ℕ → Span

@@ -17,7 +17,7 @@ ghost use Rattle.filled.specs.Plain.{plainFilled};
 ghost use Rattle.kinds.specs.Numbers.{rowAt, valueFaultIn};
 ghost use Rattle.lookup.specs.Found.{valueOf, contentBy};
 ghost use Rattle.dhcpopt_reader.specs.Plain.{plainNumber, plainContent, plainAnswer};
-ghost use Rattle.dhcpopt_index.specs.Found.{textContent, relayContent, spanAt, foundAt};
+ghost use Rattle.dhcpopt_index.specs.Found.{textContent, relayContent, routesContent, spanAt, foundAt};
 ghost use Rattle.dhcpopt_index.specs.Built.{BuildKept};
 use dhcpopt_reader::PlainAnswer;
 use dhcpopt_reader::PlainContent;
@@ -74,6 +74,7 @@ fn value(k: u8, d: &[u8]) -> PlainContent
         }
         kinds::TEXT => dhcpopt_reader::of_part(4, 10, kinds::text_len(d)),
         kinds::RELAY => dhcpopt_reader::of_part(4, 12, d.len()),
+        kinds::ROUTES => dhcpopt_reader::of_part(4, 13, d.len()),
         _ => dhcpopt_reader::of_part(4, 11, d.len()),
     }
 }
@@ -99,9 +100,20 @@ fn relay_content(d: &[u8]) -> PlainContent
     dhcpopt_reader::of_part(4, 12, d.len())
 }
 
+// And classless routes.
+fn routes_content(d: &[u8]) -> PlainContent
+    ensures { λ r. ⌜ r ≡ plainContent (routesContent (now (d .entry))) ⌝ }
+{
+    let fault = route_data::first_fault(d);
+    if fault != 0 {
+        return broken(fault);
+    }
+    dhcpopt_reader::of_part(4, 13, d.len())
+}
+
 // How data break the rule of value of another row.
 fn value_fault(row: u8, d: &[u8]) -> u8
-    requires { ⌜ (row % 16 ≡ 12 → ⊥) ⌝ }
+    requires { ⌜ (row % 16 ≡ 12 → ⊥) × (row % 16 ≡ 13 → ⊥) ⌝ }
     ensures { λ r. ⌜ r ≡ valueFaultIn (rowAt row) (now (d .entry)) ⌝ }
 {
     if kinds::is_list(row) {
@@ -126,6 +138,9 @@ fn content(row: u8, d: &[u8]) -> PlainContent
     }
     if k == kinds::RELAY {
         return relay_content(d);
+    }
+    if k == kinds::ROUTES {
+        return routes_content(d);
     }
     let fault = value_fault(row, d);
     if fault != 0 {

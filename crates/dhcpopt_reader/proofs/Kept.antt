@@ -4,7 +4,7 @@ use mathlib.Core.List.{List, [], _∷_}
 use Prim.Native.Nat.{ℕ}
 use native.Mathlib.Omega.{arith}
 use Rattle.options.specs.Message.{Field, options, file, sname, start, Opt, endToEnd}
-use Rattle.options.specs.Kinds.{Kind, address, addresses, pairs, flag, octet, number16, numbers16, unsigned32, signed32, text, opaque, relay, broken, number, part}
+use Rattle.options.specs.Kinds.{Kind, address, addresses, pairs, flag, octet, number16, numbers16, unsigned32, signed32, text, opaque, relay, routes, broken, number, part}
 use Rattle.options.specs.Reading.{Reading, accepted, refused, readMessage, pieces, parse}
 use Rattle.options.specs.Vendor.{Items, listed, past, itemsIn, itemRecords, vendorIn, vendorRecords}
 use Rattle.options.specs.Answers as asked
@@ -40,6 +40,7 @@ kind-told signed32 = told.signed-32-bits
 kind-told text = told.texts
 kind-told opaque = told.opaques
 kind-told relay = told.relays
+kind-told routes = told.route-lists
 
 is-told : (a : asked.Answer) → ToldAs a (plainAnswer a)
 is-told asked.Absent = told.absent
@@ -72,6 +73,7 @@ kind-one told.signed-32-bits = refl
 kind-one told.texts = refl
 kind-one told.opaques = refl
 kind-one told.relays = refl
+kind-one told.route-lists = refl
 
 one-way : {a : asked.Answer} {r : PlainAnswer} → ToldAs a r → r ≡ plainAnswer a
 one-way told.absent = refl

@@ -7,7 +7,7 @@ use Prim.Native.Nat.{ℕ, _+_, _≤_}
 use lib.Dec.{eqb}
 use lib.IntN.{ℤ, pos}
 use Rattle.options.specs.Message.{Field, options, file, sname}
-use Rattle.options.specs.Kinds.{Kind, address, addresses, pairs, flag, octet, number16, numbers16, unsigned32, signed32, text, opaque, relay, broken, number, part}
+use Rattle.options.specs.Kinds.{Kind, address, addresses, pairs, flag, octet, number16, numbers16, unsigned32, signed32, text, opaque, relay, routes, broken, number, part}
 use Rattle.options.specs.Answers as asked
 use Rattle.options.specs.Vendor.{vendorRecords}
 use Rattle.filled.specs.Plain.{Kept}
@@ -27,7 +27,7 @@ plainNumber k z = record { status = 3; kind = k; refusal = 0; number = z; length
 abbrev pub plainPart : ℕ → ℕ → ℕ → PlainContent
 plainPart status k n = record { status = status; kind = k; refusal = 0; number = pos 0; length = n }
 
--- status 1 unknown, 3 a kind with its number, 4 a kind with its part, 5 broken; the kinds are numbered 1 to 11, and 12
+-- status 1 unknown, 3 a kind with its number, 4 a kind with its part, 5 broken; the kinds are numbered 1 to 13
 abbrev pub plainContent : asked.Content → PlainContent
 plainContent (asked.unknown n) = plainPart 1 0 n
 plainContent (asked.known (broken n)) = record { status = 5; kind = 0; refusal = n; number = pos 0; length = 0 }
@@ -123,6 +123,7 @@ pub data KindTold : Kind → (number : ℕ) → Type 0 where
   texts : KindTold text 10
   opaques : KindTold opaque 11
   relays : KindTold relay 12
+  route-lists : KindTold routes 13
 
 -- the six statuses. `start` "always equals the field's first byte plus offset plus two, at length 0 too" (request 01)
 pub data ToldAs : asked.Answer → PlainAnswer → Type 0 where

@@ -26,7 +26,7 @@ use lookup::Origin;
 use lookup::Wholeness;
 use message::Field;
 
-// status: 0 absent, 1 unknown, 2 refused, 3 a number, 4 a part, 5 broken. kind: 1 to 11 in the order of document 01's table, 12 relay information. field: 1 options, 2 file, 3 sname.
+// status: 0 absent, 1 unknown, 2 refused, 3 a number, 4 a part, 5 broken. kind: 1 to 11 in the order of document 01's table, 12 relay information, 13 classless routes. field: 1 options, 2 file, 3 sname.
 // several: 1 where the option comes in two or more pieces, which then have `whole` bytes together; else 0 and 0.
 #[repr(C)]
 pub struct PlainAnswer {
@@ -159,6 +159,7 @@ fn of_content(x: Content) -> PlainContent
         Content::Text(n) => of_part(4, 10, n),
         Content::Opaque(n) => of_part(4, 11, n),
         Content::Relay(n) => of_part(4, 12, n),
+        Content::Routes(n) => of_part(4, 13, n),
     }
 }
 

@@ -7,7 +7,7 @@ use Prim.Native.Nat.{ℕ, _%_, _<_}
 use lib.Dec.{T, eqb, ltb}
 use lib.ListN.{getD}
 use Rattle.options.specs.Reading.{among}
-use Rattle.options.specs.Kinds.{exactly, multiples, between, any, risingFrom, ascii, suboptions, orNine, first16}
+use Rattle.options.specs.Kinds.{exactly, multiples, between, any, risingFrom, ascii, suboptions, routed, orNine, first16}
 use Rattle.kinds.specs.Numbers.{rowAt, lengthsOf, valuesOf, valueFaultIn, isList, numberFault}
 use Rattle.kinds.specs.Parts.{octetFits, number16Fits}
 use Rattle.kinds.proofs.Rules.{lengths-of, lengths-by, values-of, lists-of, lists-by, octets-of, numbers16-of, unruled-by}
@@ -50,6 +50,9 @@ module _ (n : ℕ) (h : n < 256) where
   pub length-12 : n % 16 ≡ 12 → lengthsOf (rowAt n) ≡ some (multiples 2 1)
   length-12 e = lengths-of 12 [] n h e refl (multiples 2 1) tt
 
+  pub length-13 : n % 16 ≡ 13 → lengthsOf (rowAt n) ≡ some (multiples 5 1)
+  length-13 e = lengths-of 13 [] n h e refl (multiples 5 1) tt
+
   -- whether it is a list
   pub list-3 : n % 16 ≡ 3 → isList (rowAt n) ≡ eqb n 19
   list-3 e = lists-of 3 [] n h e refl (λ m. eqb m 19) tt
@@ -62,6 +65,9 @@ module _ (n : ℕ) (h : n < 256) where
 
   pub list-12 : n % 16 ≡ 12 → isList (rowAt n) ≡ true
   list-12 e = lists-of 12 [] n h e refl (λ m. true) tt
+
+  pub list-13 : n % 16 ≡ 13 → isList (rowAt n) ≡ true
+  list-13 e = lists-of 13 [] n h e refl (λ m. true) tt
 
   pub list-4 : n % 16 ≡ 4 → isList (rowAt n) ≡ false
   list-4 e = lists-of 4 [] n h e refl (λ m. false) tt
@@ -82,6 +88,9 @@ module _ (n : ℕ) (h : n < 256) where
   pub value-12 : n % 16 ≡ 12 → valuesOf (rowAt n) ≡ some (suboptions)
   value-12 e = values-of 12 [] n h e refl (suboptions) tt
 
+  pub value-13 : n % 16 ≡ 13 → valuesOf (rowAt n) ≡ some (routed)
+  value-13 e = values-of 13 [] n h e refl (routed) tt
+
   pub value-4 : n % 16 ≡ 4 → valuesOf (rowAt n) ≡ some (between 0 1)
   value-4 e = values-of 4 [] n h e refl (between 0 1) tt
 
@@ -101,10 +110,10 @@ module _ (n : ℕ) (h : n < 256) where
 
 -- no kind has this number; no list, but for those of 33; no rule of a number
 abbrev pub kindless : ℕ → Bool
-kindless k = eqb k 0 || ltb 12 k
+kindless k = eqb k 0 || ltb 13 k
 
 abbrev pub listless : ℕ → Bool
-listless k = not (among k (3 ∷ 7 ∷ 10 ∷ 12 ∷ []))
+listless k = not (among k (3 ∷ 7 ∷ 10 ∷ 12 ∷ 13 ∷ []))
 
 abbrev pub numberless : ℕ → Bool
 numberless k = not (among k (4 ∷ 5 ∷ 6 ∷ []))

@@ -2,6 +2,6 @@
 pub mod ByKind
 mod Entries
 pub mod Numbering
-pub mod Relay
+pub mod High
 mod Rules
 pub mod Walks

@@ -9,7 +9,7 @@ use borrow.Author.Tests.{ne-eqb}
 use lib.Dec.{eqb}
 use lib.ListN.{length}
 use Rattle.options.specs.SheetWalk.{isBroken}
-use Rattle.options.specs.Kinds.{Kind, address, addresses, pairs, flag, octet, number16, numbers16, unsigned32, signed32, text, opaque, relay, Value, broken, number, part, Row, rows, rowOf, kindBy, kindOf, fault, unless, meaning, judged, judgedBy, kinds}
+use Rattle.options.specs.Kinds.{Kind, address, addresses, pairs, flag, octet, number16, numbers16, unsigned32, signed32, text, opaque, relay, routes, Value, broken, number, part, Row, rows, rowOf, kindBy, kindOf, fault, unless, meaning, judged, judgedBy, kinds}
 use Rattle.ranges.specs.Rows.{numberOf, rowFrom, rowNumber}
 use Rattle.ranges.proofs.Kept.{numbers-keep-the-row, no-number, from-kind}
 use Rattle.kinds.proofs.Rules.{opaque-else}
@@ -28,6 +28,7 @@ named signed32 = refl
 named text = refl
 named opaque = refl
 named relay = refl
+named routes = refl
 
 pub numbered : (k : Kind) → numberOf k ≡ 0 → ⊥
 numbered k e =
@@ -56,6 +57,7 @@ kind-back signed32 = refl
 kind-back text = refl
 kind-back opaque = refl
 kind-back relay = refl
+kind-back routes = refl
 
 pub numbers-keep-the-kind : NumbersKeepTheKind
 numbers-keep-the-kind none = refl
@@ -66,8 +68,8 @@ abbrev pub Outside : ℕ → ℕ → ℕ → Type 0
 Outside a zero n = Unit {0}
 Outside a (suc k) n = Outside a k n × (n ≡ a + k → ⊥)
 
-pub else-opaque : (n : ℕ) → Outside 1 10 n → (n ≡ 12 → ⊥) → kindAt n ≡ opaque
-else-opaque n h x =
+pub else-opaque : (n : ℕ) → Outside 1 10 n → (n ≡ 12 → ⊥) → (n ≡ 13 → ⊥) → kindAt n ≡ opaque
+else-opaque n h x y =
     rw (
       ne-eqb n 1 (h .0 .0 .0 .0 .0 .0 .0 .0 .0 .1),
       ne-eqb n 2 (h .0 .0 .0 .0 .0 .0 .0 .0 .1),
@@ -80,6 +82,7 @@ else-opaque n h x =
       ne-eqb n 9 (h .0 .1),
       ne-eqb n 10 (h .1),
       ne-eqb n 12 x,
+      ne-eqb n 13 y,
     )
 
 -- what a kind makes of data that keeps its rules is not broken, and so no fault
@@ -97,6 +100,7 @@ unbroken signed32 d = refl
 unbroken text d = refl
 unbroken opaque d = refl
 unbroken relay d = refl
+unbroken routes d = refl
 
 no-fault : (v : Value) → isBroken v ≡ false → numberOfFault v ≡ 0
 no-fault (broken n) e = absurd (let z : _≡_ {A = ℕ} 0 1 = cc in omega arith)

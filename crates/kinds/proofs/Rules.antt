@@ -10,7 +10,7 @@ use lib.Dec.{T, eqb, eqb→eq}
 use lib.ListN.{getD}
 use mir.Facts.{and-yes}
 use Rattle.options.specs.Reading.{among}
-use Rattle.options.specs.Kinds.{Row, rows, Lengths, exactly, multiples, Values, any, between, oneOf, atLeast, risingFrom, destinations, ascii, suboptions, valueFault, orNine, first16}
+use Rattle.options.specs.Kinds.{Row, rows, Lengths, exactly, multiples, Values, any, between, oneOf, atLeast, risingFrom, destinations, ascii, suboptions, routed, valueFault, orNine, first16}
 use Rattle.ranges.specs.Rows.{numberOf, rowFrom}
 use Rattle.kinds.specs.Numbers.{kindAt, orElse, rowAt, lengthsOf, valuesOf, breaksValue, valueFaultIn, isList, numberFault}
 use Rattle.kinds.specs.Parts.{keepsOctet, octetFits, keepsNumber16, number16Fits}
@@ -68,6 +68,7 @@ asList (some (risingFrom a)) = 5 ∷ a ∷ []
 asList (some destinations) = 6 ∷ []
 asList (some ascii) = 7 ∷ []
 asList (some suboptions) = 8 ∷ []
+asList (some routed) = 9 ∷ []
 
 -- and back
 abbrev fromList : List ℕ → Option Values
@@ -76,7 +77,7 @@ fromList (t ∷ xs) =
     cond (eqb t 1) (some any)
     (cond (eqb t 2) (some (between (getD xs 0 0) (getD xs 1 0)))
     (cond (eqb t 3) (some (oneOf xs))
-    (cond (eqb t 4) (some (atLeast (getD xs 0 0))) (cond (eqb t 5) (some (risingFrom (getD xs 0 0))) (cond (eqb t 6) (some destinations) (cond (eqb t 7) (some ascii) (some suboptions)))))))
+    (cond (eqb t 4) (some (atLeast (getD xs 0 0))) (cond (eqb t 5) (some (risingFrom (getD xs 0 0))) (cond (eqb t 6) (some destinations) (cond (eqb t 7) (some ascii) (cond (eqb t 8) (some suboptions) (some routed))))))))
 
 list-back : (o : Option Values) → fromList (asList o) ≡ o
 list-back none = refl
@@ -88,6 +89,7 @@ list-back (some (risingFrom a)) = refl
 list-back (some destinations) = refl
 list-back (some ascii) = refl
 list-back (some suboptions) = refl
+list-back (some routed) = refl
 
 same-values : (a b : Option Values) → T (sameList (asList a) (asList b)) → b ≡ a
 same-values a b t = sym (list-back b) ∙ ap fromList (sym (same-list (asList a) (asList b) t)) ∙ list-back a
@@ -114,6 +116,7 @@ isAny (some (risingFrom a)) = false
 isAny (some destinations) = false
 isAny (some ascii) = false
 isAny (some suboptions) = false
+isAny (some routed) = false
 
 abbrev pub unruled : Bool → Option Values → Bool
 unruled true v = true
@@ -130,6 +133,7 @@ no-rule (some (risingFrom a)) d t = absurd t
 no-rule (some destinations) d t = absurd t
 no-rule (some ascii) d t = absurd t
 no-rule (some suboptions) d t = absurd t
+no-rule (some routed) d t = absurd t
 
 abbrev pub isOctet : Option Values → Bool
 isOctet none = true
@@ -141,6 +145,7 @@ isOctet (some (risingFrom a)) = false
 isOctet (some destinations) = false
 isOctet (some ascii) = false
 isOctet (some suboptions) = false
+isOctet (some routed) = false
 
 octet-fault : (v : Option Values) (d : List ℕ) → T (isOctet v) → breaksValue v d ≡ orNine (keepsOctet v (getD d 0 0))
 unfolding valueFault
@@ -153,6 +158,7 @@ octet-fault (some (risingFrom a)) d t = absurd t
 octet-fault (some destinations) d t = absurd t
 octet-fault (some ascii) d t = absurd t
 octet-fault (some suboptions) d t = absurd t
+octet-fault (some routed) d t = absurd t
 
 abbrev pub isNumber16 : Option Values → Bool
 isNumber16 none = true
@@ -164,6 +170,7 @@ isNumber16 (some (risingFrom a)) = false
 isNumber16 (some destinations) = false
 isNumber16 (some ascii) = false
 isNumber16 (some suboptions) = false
+isNumber16 (some routed) = false
 
 number16-fault : (v : Option Values) (d : List ℕ) → T (isNumber16 v) → breaksValue v d ≡ orNine (keepsNumber16 v (first16 d))
 unfolding valueFault
@@ -176,6 +183,7 @@ number16-fault (some (risingFrom a)) d t = absurd t
 number16-fault (some destinations) d t = absurd t
 number16-fault (some ascii) d t = absurd t
 number16-fault (some suboptions) d t = absurd t
+number16-fault (some routed) d t = absurd t
 
 -- ---- Where a test holds
 

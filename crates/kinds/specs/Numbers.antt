@@ -1,4 +1,4 @@
--- THE KINDS AS NUMBERS: 1 to 11 in the order of document 01's table, 12 for relay information, 0 for a code without a row; and the number of a fault, 8 or 9, or 0 for none.
+-- THE KINDS AS NUMBERS: 1 to 11 in the order of document 01's table, 12 for relay information, 13 for classless routes, 0 for a code without a row; and the number of a fault, 8 or 9, or 0 for none.
 -- Assumes nothing.
 use mathlib.Core.Path.{_≡_}
 use mathlib.Core.List.{List, []}
@@ -6,9 +6,9 @@ use mathlib.Core.Bool.{Bool, true, false, cond}
 use mathlib.Core.Logic.{_↔_}
 use mathlib.Core.Option.{Option, none, some}
 use Prim.Native.Nat.{ℕ, _%_, _≤_}
-use lib.Dec.{eqb}
+use lib.Dec.{eqb, leb}
 use Rattle.options.specs.Reading.{either}
-use Rattle.options.specs.Kinds.{Kind, address, addresses, pairs, flag, octet, number16, numbers16, unsigned32, signed32, text, opaque, relay, Lengths, isLength, Values, any, between, oneOf, atLeast, risingFrom, destinations, ascii, suboptions, valueFault, Row, rows, kindBy, fault, Value, broken, number, part, kinds}
+use Rattle.options.specs.Kinds.{Kind, address, addresses, pairs, flag, octet, number16, numbers16, unsigned32, signed32, text, opaque, relay, routes, Lengths, isLength, Values, any, between, oneOf, atLeast, risingFrom, destinations, ascii, suboptions, routed, valueFault, Row, rows, kindBy, fault, Value, broken, number, part, kinds}
 use Rattle.options.specs.Answers.{isText}
 use Rattle.ranges.specs.Rows.{numberOf, rowFrom}
 
@@ -28,7 +28,7 @@ kindAt n =
     (cond (eqb n 7) numbers16
     (cond (eqb n 8) unsigned32
     (cond (eqb n 9) signed32
-    (cond (eqb n 10) text (cond (eqb n 12) relay opaque))))))))))
+    (cond (eqb n 10) text (cond (eqb n 12) relay (cond (eqb n 13) routes opaque)))))))))))
 
 -- the kind that a number stands for: none for 0, and for a number that no kind has
 abbrev pub kindFrom : ℕ → Option Kind
@@ -43,9 +43,9 @@ kindFrom n =
     (cond (eqb n 8) (some unsigned32)
     (cond (eqb n 9) (some signed32)
     (cond (eqb n 10) (some text)
-    (cond (eqb n 11) (some opaque) (cond (eqb n 12) (some relay) none)))))))))))
+    (cond (eqb n 11) (some opaque) (cond (eqb n 12) (some relay) (cond (eqb n 13) (some routes) none))))))))))))
 
--- a number loses nothing of the row, and is one of 1 to 11 or 12, or 0 for none
+-- a number loses nothing of the row, and is one of 1 to 13, or 0 for none
 abbrev pub NumbersKeepTheKind : Type 0
 NumbersKeepTheKind = (o : Option Kind) → kindFrom (kindNumber o) ≡ o
 
@@ -113,6 +113,7 @@ ofEach (risingFrom least) = true
 ofEach destinations = true
 ofEach ascii = true
 ofEach suboptions = true
+ofEach routed = true
 
 -- the rows by which every data byte is looked at: by their rule of value, or for the meaning, where a text ends; for the meaning of another kind no more
 -- than the first four are looked at
@@ -124,9 +125,12 @@ isList (some r) = either (ofEach (r .values)) (isText (r .kind))
 abbrev pub listFault : Option Row → List ℕ → ℕ
 listFault o d = cond (isList o) (valueFaultIn o d) 0
 
--- the first part but for relay information, kind 12
+-- the first part in two: that of the kinds from 12 on, relay information and classless routes, and that of the others
+abbrev pub longListFault : ℕ → List ℕ → ℕ
+longListFault n d = cond (leb 12 (n % 16)) (listFault (rowAt n) d) 0
+
 abbrev pub shortListFault : ℕ → List ℕ → ℕ
-shortListFault n d = cond (eqb (n % 16) 12) 0 (listFault (rowAt n) d)
+shortListFault n d = cond (leb 12 (n % 16)) 0 (listFault (rowAt n) d)
 
 abbrev pub numberFault : Option Row → List ℕ → ℕ
 numberFault o d = cond (isList o) 0 (valueFaultIn o d)

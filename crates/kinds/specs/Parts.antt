@@ -4,7 +4,7 @@ use mathlib.Core.Option.{Option, none, some}
 use Prim.Native.Nat.{ℕ}
 use lib.Dec.{leb}
 use Rattle.options.specs.Reading.{among}
-use Rattle.options.specs.Kinds.{Row, Values, any, between, oneOf, atLeast, risingFrom, destinations, ascii, suboptions, fromTo}
+use Rattle.options.specs.Kinds.{Row, Values, any, between, oneOf, atLeast, risingFrom, destinations, ascii, suboptions, routed, fromTo}
 use Rattle.kinds.specs.Numbers.{valuesOf}
 
 -- the rule of a byte, and that of a 16-bit number; other rules ask nothing of them
@@ -18,6 +18,7 @@ keepsOctet (some (risingFrom least)) v = true
 keepsOctet (some destinations) v = true
 keepsOctet (some ascii) v = true
 keepsOctet (some suboptions) v = true
+keepsOctet (some routed) v = true
 
 abbrev pub octetFits : Option Row → ℕ → Bool
 octetFits o v = keepsOctet (valuesOf o) v
@@ -32,6 +33,7 @@ keepsNumber16 (some (risingFrom least)) v = true
 keepsNumber16 (some destinations) v = true
 keepsNumber16 (some ascii) v = true
 keepsNumber16 (some suboptions) v = true
+keepsNumber16 (some routed) v = true
 
 abbrev pub number16Fits : Option Row → ℕ → Bool
 number16Fits o v = keepsNumber16 (valuesOf o) v

@@ -5,7 +5,7 @@ ghost use Prim.Native.Nat.{_<_, _≤_, _%_};
 ghost use Rattle.options.specs.Reading.{among};
 ghost use Rattle.options.specs.Kinds.{kindOf, multiples, isLength, addressesOf, numbersOf, rising, noZeroFirst, trimmed, fromTo, textFits, orNine};
 ghost use Rattle.options.specs.SubOptions.{subOptions, fillFault};
-ghost use Rattle.kinds.specs.Numbers.{kindNumber, rowAt, kindNumbered, faultOf, faultNumbered, lengthFits, valueFaultIn, isList, listFault, shortListFault, numberFault, NumbersKeepTheKind, FaultsKeepTheNumber};
+ghost use Rattle.kinds.specs.Numbers.{kindNumber, rowAt, kindNumbered, faultOf, faultNumbered, lengthFits, valueFaultIn, isList, listFault, shortListFault, longListFault, numberFault, NumbersKeepTheKind, FaultsKeepTheNumber};
 ghost use Rattle.kinds.specs.Parts.{octetFits, number16Fits};
 
 // The kinds as numbers (document 01, The kinds): its rows in their order, and 0 for a code that has none.
@@ -36,7 +36,10 @@ pub const OPAQUE: u8 = 11;
 // Relay information (document 02, request 09).
 pub const RELAY: u8 = 12;
 
-// The number given for a sub-option that runs past the data.
+// Classless routes (document 02, request 14).
+pub const ROUTES: u8 = 13;
+
+// The number given for a sub-option or a route that runs past the data.
 const PAST: u8 = 8;
 
 // The numbers of the rows (crates/ranges/specs/Rows.antt) have that of their kind in the low four bits. The first row of a kind has the number of the kind;
@@ -109,7 +112,21 @@ pub fn fault(c: u8, d: &[u8]) -> u8
     if ranges::LAST < c {
         return above_fault(c, d);
     }
-    fault_in(ranges::row(c), d)
+    low_fault(ranges::row(c), d)
+}
+
+// The same, by the number of the row of a code in the ranges: none is of a kind from 12 on, whose loops would take registers from the caller's walk.
+fn low_fault(row: u8, d: &[u8]) -> u8
+    requires { ⌜ row % 16 < 12 ⌝ }
+    ensures { λ r. ⌜ r ≡ faultNumbered row (now (d .entry)) ⌝ }
+{
+    if length_fits(row, d.len()) {
+        if is_list(row) {
+            return short_list_fault(row, d);
+        }
+        return number_fault(row, d);
+    }
+    8
 }
 
 // The same, of a code above those of the ranges.
@@ -119,6 +136,9 @@ fn above_fault(c: u8, d: &[u8]) -> u8
 {
     if c == ranges::RELAY {
         return relay_fault(d);
+    }
+    if c == ranges::ROUTES {
+        return routes_fault(d);
     }
     0
 }
@@ -131,6 +151,16 @@ pub fn relay_fault(d: &[u8]) -> u8
         return PAST;
     }
     suboptions_fault(d)
+}
+
+// The same, of classless routes.
+pub fn routes_fault(d: &[u8]) -> u8
+    ensures { λ r. ⌜ r ≡ faultOf 121 (now (d .entry)) ⌝ }
+{
+    if !stepped(d.len(), 5, 1) {
+        return PAST;
+    }
+    route_data::first_fault(d)
 }
 
 // The same, by the row's number.
@@ -170,6 +200,7 @@ pub fn length_fits(row: u8, n: usize) -> bool
             stepped(n, 1, 1)
         }
         RELAY => stepped(n, 2, 1),
+        ROUTES => stepped(n, 5, 1),
         _ => true,
     }
 }
@@ -190,8 +221,8 @@ fn value_fault(row: u8, d: &[u8]) -> u8
     ensures { λ r. ⌜ r ≡ valueFaultIn (rowAt row) (now (d .entry)) ⌝ }
 {
     if is_list(row) {
-        if row % 16 == RELAY {
-            return suboptions_fault(d);
+        if RELAY <= row % 16 {
+            return long_list_fault(row, d);
         }
         return short_list_fault(row, d);
     }
@@ -207,6 +238,7 @@ pub fn is_list(row: u8) -> bool
         NUMBERS16 => true,
         TEXT => true,
         RELAY => true,
+        ROUTES => true,
         _ => false,
     }
 }
@@ -215,13 +247,24 @@ pub fn is_list(row: u8) -> bool
 pub fn list_fault(row: u8, d: &[u8]) -> u8
     ensures { λ r. ⌜ r ≡ listFault (rowAt row) (now (d .entry)) ⌝ }
 {
-    if row % 16 == RELAY {
-        return suboptions_fault(d);
+    if RELAY <= row % 16 {
+        return long_list_fault(row, d);
     }
     short_list_fault(row, d)
 }
 
-// The same but for relay information, which is passed: with its loop in it the compiler would not put this into its callers.
+// Of relay information and of routes alone, the kinds from 12 on.
+pub fn long_list_fault(row: u8, d: &[u8]) -> u8
+    ensures { λ r. ⌜ r ≡ longListFault row (now (d .entry)) ⌝ }
+{
+    match row % 16 {
+        RELAY => suboptions_fault(d),
+        ROUTES => route_data::first_fault(d),
+        _ => 0,
+    }
+}
+
+// Of the others: with the loops of those two in it the compiler would not put this into its callers.
 pub fn short_list_fault(row: u8, d: &[u8]) -> u8
     ensures { λ r. ⌜ r ≡ shortListFault row (now (d .entry)) ⌝ }
 {

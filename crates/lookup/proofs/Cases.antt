@@ -19,6 +19,7 @@ content-by-case =
       text = λ n. refl;
       opaque = λ n. refl;
       relay = λ n. refl;
+      routes = λ n. refl;
     }
 
 pub origin-by-case : OriginByCase

@@ -9,7 +9,7 @@ use lib.Dec.{eqb}
 use lib.ListN.{length, getD}
 use borrow.Author.Tests.{eq-eqb, ne-eqb, eqb-true, eqb-false}
 use Rattle.options.specs.Reading.{either}
-use Rattle.options.specs.Kinds.{Kind, address, addresses, pairs, flag, octet, number16, numbers16, unsigned32, signed32, text, opaque, relay, first16, first32, trimmed, Values, any, between, oneOf, atLeast, risingFrom, destinations, ascii, suboptions, isLength, valueFault, Row, rowOf, kindBy, fault, unless, meaning, judged, Value, broken, hasRow, judgedBy, kinds}
+use Rattle.options.specs.Kinds.{Kind, address, addresses, pairs, flag, octet, number16, numbers16, unsigned32, signed32, text, opaque, relay, routes, first16, first32, trimmed, Values, any, between, oneOf, atLeast, risingFrom, destinations, ascii, suboptions, routed, isLength, valueFault, Row, rowOf, kindBy, fault, unless, meaning, judged, Value, broken, hasRow, judgedBy, kinds}
 use Rattle.options.specs.Answers as asked
 use Rattle.ranges.specs.Rows.{numberOf, rowNumber}
 use Rattle.ranges.proofs.Kept.{no-number}
@@ -82,6 +82,7 @@ module _ (d h : List ℕ) (head-byte : (i : ℕ) → i < 4 → getD h i 0 ≡ ge
   head-value destinations z = never z
   head-value ascii z = never z
   head-value suboptions z = never z
+  head-value routed z = never z
 
   head-meaning : (k : Kind) → asked.isText k ≡ false → meaningOf k (length d) h ≡ meaning k d
   unfolding meaning meaningOf
@@ -97,6 +98,7 @@ module _ (d h : List ℕ) (head-byte : (i : ℕ) → i < 4 → getD h i 0 ≡ ge
   head-meaning text z = never z
   head-meaning opaque z = refl
   head-meaning relay z = refl
+  head-meaning routes z = refl
 
   pub by-first-four : (row : ℕ) → isList (rowAt row) ≡ false → judgedOf row (length d) (numberFault (rowAt row) h) h ≡ judgedBy (rowAt row) d
   unfolding judgedOf judged fault meaning meaningOf
@@ -124,6 +126,7 @@ module _ (d : List ℕ) where
   all-meaning text = refl
   all-meaning opaque = refl
   all-meaning relay = refl
+  all-meaning routes = refl
 
   pub by-all : (row : ℕ) → isList (rowAt row) ≡ true → judgedOf row (length d) (listFault (rowAt row) d) d ≡ judgedBy (rowAt row) d
   unfolding judgedOf judged fault
@@ -151,6 +154,7 @@ meant-else g signed32 d z = refl
 meant-else g text d z = absurd (z refl)
 meant-else g opaque d z = refl
 meant-else g relay d z = refl
+meant-else g routes d z = refl
 
 -- kind 10 is text
 text-numbered : (k : Kind) → numberOf k ≡ 10 → k ≡ text

@@ -7,7 +7,7 @@ use lib.Dec.{eqb, leb}
 use lib.IntN.{pos}
 use lib.ListN.{length, getD, take, drop}
 use Rattle.options.specs.Message.{options, file, sname, start}
-use Rattle.options.specs.Kinds.{Kind, address, addresses, pairs, flag, octet, number16, numbers16, unsigned32, signed32, text, opaque, relay, Value, broken, number, part, unless, first16, first32, twosComplement, trimmed, meaning, judged, judgedBy}
+use Rattle.options.specs.Kinds.{Kind, address, addresses, pairs, flag, octet, number16, numbers16, unsigned32, signed32, text, opaque, relay, routes, Value, broken, number, part, unless, first16, first32, twosComplement, trimmed, meaning, judged, judgedBy}
 use Rattle.options.specs.Answers as asked
 use Rattle.kinds.specs.Numbers.{kindAt, rowAt, kindNumbered, lengthFits}
 use Rattle.message.specs.declared.Scanned.{Scanned}
@@ -47,6 +47,7 @@ meaningOf signed32 n d = number signed32 (twosComplement (first32 d))
 meaningOf text n d = part text (trimmed d)
 meaningOf opaque n d = part opaque n
 meaningOf relay n d = part relay n
+meaningOf routes n d = part routes n
 
 -- the verdict on them of the row with a number, by its rule of length and by what its rule of value says, a fault's number or 0
 unfoldable pub judgedOf : ℕ → ℕ → ℕ → List ℕ → Value

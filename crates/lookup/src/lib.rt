@@ -38,6 +38,7 @@ pub enum Content {
     Text(usize),
     Opaque(usize),
     Relay(usize),
+    Routes(usize),
 }
 
 // Whether an option comes in one piece, or in several, which then have so many bytes together (document 02, request 02).
@@ -88,6 +89,7 @@ fn value(k: u8, d: &[u8]) -> Content
         kinds::SIGNED32 => Content::Signed32(num::signed(num::first32(d))),
         kinds::TEXT => Content::Text(kinds::text_len(d)),
         kinds::RELAY => Content::Relay(d.len()),
+        kinds::ROUTES => Content::Routes(d.len()),
         _ => Content::Opaque(d.len()),
     }
 }
@@ -133,6 +135,7 @@ fn joined_value(k: u8, n: usize, d: &[u8]) -> Content
         kinds::SIGNED32 => Content::Signed32(num::signed(num::first32(d))),
         kinds::TEXT => Content::Text(kinds::text_len(d)),
         kinds::RELAY => Content::Relay(n),
+        kinds::ROUTES => Content::Routes(n),
         _ => Content::Opaque(n),
     }
 }

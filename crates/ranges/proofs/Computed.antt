@@ -7,7 +7,7 @@ use native.Mathlib.Omega.{arith}
 use borrow.Author.Count.{below-more}
 use lib.Bits.{bitAnd}
 use lib.Count.{leadingZeros}
-use lib.Dec.{T, eqb, eqb→eq}
+use lib.Dec.{T, eqb, eqb→eq, ltb, ltb→lt}
 use mir.Facts.{and-yes, or-yes}
 use Rattle.ranges.specs.Rows.{rowNumber}
 use Rattle.ranges.specs.Words.{rangeRow, inRanges}
@@ -35,17 +35,29 @@ right firsts rows c = eqb (rangeRow firsts rows c) (rowNumber c)
 pub rows-right : (firsts rows a n : ℕ) → T (allBelow (λ i. right firsts rows (a + i)) n) → (c : ℕ) → a ≤ c → c < a + n → rangeRow firsts rows c ≡ rowNumber c
 rows-right firsts rows a n t c l h = eqb→eq _ _ (all-from (right firsts rows) a n t c l h)
 
--- no code from 77 on has a row, but for 82
+-- no code from 77 on has a row, but for 82 and 121
 pub row-82 : 12 ≡ rowNumber 82
 unfolding rowNumber
 row-82 = refl
 
-pub no-row : (c : ℕ) → 77 ≤ c → c < 256 → (c ≡ 82 → ⊥) → 0 ≡ rowNumber c
+pub row-121 : 13 ≡ rowNumber 121
 unfolding rowNumber
-no-row c l h n = elim (or-yes (eqb c 82) (eqb 0 (rowNumber c)) (all-from (λ x. eqb x 82 || eqb 0 (rowNumber x)) 77 179 tt c l (omega arith))) [
+row-121 = refl
+
+pub no-row : (c : ℕ) → 77 ≤ c → c < 256 → (c ≡ 82 → ⊥) → (c ≡ 121 → ⊥) → 0 ≡ rowNumber c
+unfolding rowNumber
+no-row c l h n k = elim (or-yes (eqb c 82) (eqb c 121 || eqb 0 (rowNumber c)) (all-from (λ x. eqb x 82 || (eqb x 121 || eqb 0 (rowNumber x))) 77 179 tt c l (omega arith))) [
   | inl e ↦ absurd (n (eqb→eq _ _ e))
-  | inr e ↦ eqb→eq _ _ e
+  | inr o ↦ elim (or-yes (eqb c 121) (eqb 0 (rowNumber c)) o) [
+    | inl e ↦ absurd (k (eqb→eq _ _ e))
+    | inr e ↦ eqb→eq _ _ e
+  ]
 ]
+
+-- no code below 77 is of relay information or of classless routes
+pub low-kind : (c : ℕ) → c < 77 → rowNumber c % 16 < 12
+unfolding rowNumber
+low-kind c h = ltb→lt _ _ (all-below (λ x. ltb (rowNumber x % 16) 12) 77 tt c h)
 
 -- two tests that give the same
 abbrev pub same : Bool → Bool → Bool

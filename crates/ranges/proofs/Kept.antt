@@ -9,7 +9,7 @@ use native.Mathlib.Omega.{arith}
 use borrow.Author.Tests.{eq-eqb, ne-eqb, eqb-true}
 use lib.Dec.{eqb}
 use Rattle.options.specs.Reading.{among}
-use Rattle.options.specs.Kinds.{Kind, address, addresses, pairs, flag, octet, number16, numbers16, unsigned32, signed32, text, opaque, relay, Row, rows, rowIn, rowOf}
+use Rattle.options.specs.Kinds.{Kind, address, addresses, pairs, flag, octet, number16, numbers16, unsigned32, signed32, text, opaque, relay, routes, Row, rows, rowIn, rowOf}
 use Rattle.ranges.specs.Rows.{numberOf, ofKind, number, numberIn, rowNumber, rowFrom, NumbersKeepTheRow}
 
 -- the number of a kind has four bits, and is not 0
@@ -26,6 +26,7 @@ kind-low signed32 = (omega arith, omega arith)
 kind-low text = (omega arith, omega arith)
 kind-low opaque = (omega arith, omega arith)
 kind-low relay = (omega arith, omega arith)
+kind-low routes = (omega arith, omega arith)
 
 -- a number behind these rows: 0, or that of a kind with more rows before it than they have
 pub record Behind (before : List Row) (n : ℕ) : Type 0 where

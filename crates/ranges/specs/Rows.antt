@@ -1,4 +1,4 @@
--- THE ROWS AS NUMBERS: that of the row's kind, 1 to 11 in the order of document 01's table and 12 for relay information, and 16 for each row of that kind before it; 0 for a code
+-- THE ROWS AS NUMBERS: that of the row's kind, 1 to 11 in the order of document 01's table, 12 for relay information and 13 for classless routes, and 16 for each row of that kind before it; 0 for a code
 -- without a row. Assumes nothing.
 use mathlib.Core.Path.{_≡_}
 use mathlib.Core.List.{List, [], _∷_}
@@ -7,7 +7,7 @@ use mathlib.Core.Option.{Option, none, some}
 use Prim.Native.Nat.{ℕ, suc, _+_, _*_}
 use lib.Dec.{eqb}
 use Rattle.options.specs.Reading.{among}
-use Rattle.options.specs.Kinds.{Kind, address, addresses, pairs, flag, octet, number16, numbers16, unsigned32, signed32, text, opaque, relay, Row, rows, rowOf}
+use Rattle.options.specs.Kinds.{Kind, address, addresses, pairs, flag, octet, number16, numbers16, unsigned32, signed32, text, opaque, relay, routes, Row, rows, rowOf}
 
 abbrev pub numberOf : Kind → ℕ
 numberOf address = 1
@@ -22,6 +22,7 @@ numberOf signed32 = 9
 numberOf text = 10
 numberOf opaque = 11
 numberOf relay = 12
+numberOf routes = 13
 
 -- how many rows have the kind numbered k
 abbrev pub ofKind : ℕ → List Row → ℕ

@@ -5,12 +5,16 @@ ghost use lib.Dec.{eqb};
 ghost use Rattle.ranges.specs.Rows.{rowNumber, NumbersKeepTheRow};
 ghost use Rattle.ranges.specs.Words.{rangeRow, GivesRowOf, inRanges};
 
-// The last code of the ranges below. Of those above it one has a row: relay information (document 02, request 09).
+// The last code of the ranges below. Of those above it two have a row: relay information and classless routes (document 02, requests 09 and 14).
 pub const LAST: u8 = 76;
 
 pub const RELAY: u8 = 82;
 
+pub const ROUTES: u8 = 121;
+
 const ROW_82: u8 = 12;
+
+const ROW_121: u8 = 13;
 
 // Eight ranges of codes, one behind the other, or fewer: the first code of each, and the number of the row that its codes have. A byte is a range, the lowest
 // byte the first; one that is not used begins at 128.
@@ -99,13 +103,16 @@ fn row_in(firsts: u64, rows: u64, c: u8) -> u8
     ((rows >> (56 - above * 8)) % 64) as u8
 }
 
-// The row of a code from 77 on: 82 alone has one.
+// The row of a code from 77 on: 82 and 121 have one.
 fn above(c: u8) -> u8
     requires { ⌜ 77 ≤ c ⌝ }
     ensures { λ r. ⌜ r ≡ rowNumber c ⌝ }
 {
     if c == RELAY {
         return ROW_82;
+    }
+    if c == ROUTES {
+        return ROW_121;
     }
     0
 }

@@ -69,6 +69,7 @@ fn told(c: Content) -> PlainContent {
         Content::Text(n) => part(4, 10, n),
         Content::Opaque(n) => part(4, 11, n),
         Content::Relay(n) => part(4, 12, n),
+        Content::Routes(n) => part(4, 13, n),
     }
 }
 

@@ -18,7 +18,7 @@ const FIRST: u8 = 160;
 // A blank and a name, each in 11 bytes: absent, unknown, refused; the kinds; broken; the fields.
 fn name(i: u32) {
     let t = part(
-        b" absent\0\0\0\0 unknown\0\0\0 refused\0\0\0 address\0\0\0 addresses\0 pairs\0\0\0\0\0 flag\0\0\0\0\0\0 octet\0\0\0\0\0 number16\0\0 numbers16\0 unsigned32 signed32\0\0 text\0\0\0\0\0\0 opaque\0\0\0\0 relay\0\0\0\0\0 broken\0\0\0\0 options\0\0\0 file\0\0\0\0\0\0 sname\0\0\0\0\0",
+        b" absent\0\0\0\0 unknown\0\0\0 refused\0\0\0 address\0\0\0 addresses\0 pairs\0\0\0\0\0 flag\0\0\0\0\0\0 octet\0\0\0\0\0 number16\0\0 numbers16\0 unsigned32 signed32\0\0 text\0\0\0\0\0\0 opaque\0\0\0\0 relay\0\0\0\0\0 routes\0\0\0\0 broken\0\0\0\0 options\0\0\0 file\0\0\0\0\0\0 sname\0\0\0\0\0",
         i as usize * 11,
         11,
     );
@@ -41,10 +41,10 @@ fn answer_name(status: u32, kind: u32) {
         return;
     }
     if status < 5 {
-        named(2, kind, 12);
+        named(2, kind, 13);
         return;
     }
-    named(10, status, 5);
+    named(11, status, 5);
 }
 
 // What is answered of an option: its name, and its number, its length, or number and place of what is broken.
@@ -73,7 +73,7 @@ fn answer(a: PlainAnswer) {
         return;
     }
     content(a);
-    named(15, a.field, 3);
+    named(16, a.field, 3);
     two(b"", a.offset, a.start);
     if a.several == 1 {
         one(b" several", a.whole as u64);

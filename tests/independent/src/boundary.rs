@@ -2,10 +2,10 @@
 //! signatures, so that single calls of it can be counted.
 
 use crate::rules::answers::{
-    Codes, Content, Listed, Lookup, Origin, Part, Refusal, RollCall, Several, EMPTY,
+    Codes, Content, Listed, Lookup, Origin, Part, Refusal, RollCall, Route, Several, EMPTY,
 };
 use crate::rules::captures::Tally;
-use crate::rules::{groups, index, profile, reading, relay, vendor, writing};
+use crate::rules::{groups, index, profile, reading, relay, routes, vendor, writing};
 use std::slice;
 
 /// status: 0 absent, 1 unknown, 2 refused, 3 a number, 4 a part, 5 broken.
@@ -169,6 +169,47 @@ impl From<Result<u32, Refusal>> for Profiled {
     }
 }
 
+/// given: 1 with a route and the place behind it; 0 when the walk is done, and
+/// then next is the place asked for.
+#[repr(C)]
+#[derive(Clone, Copy, PartialEq, Eq, Debug, Default)]
+pub struct RouteStep {
+    pub given: u32,
+    pub destination: u32,
+    pub width: u32,
+    pub router: u32,
+    pub next: usize,
+}
+
+impl RouteStep {
+    pub fn of_step(step: Option<(Route, usize)>, at: usize) -> RouteStep {
+        match step {
+            Some((Route { destination, width, router }, next)) => {
+                RouteStep { given: 1, destination, width: u32::from(width), router, next }
+            }
+            None => RouteStep { next: at, ..RouteStep::default() },
+        }
+    }
+}
+
+/// Whether 3 and 33 are ignored.
+#[repr(C)]
+#[derive(Clone, Copy, PartialEq, Eq, Debug, Default)]
+pub struct Ignored {
+    pub refusal: u32,
+    pub ignored: u32,
+    pub place: usize,
+}
+
+impl From<Result<bool, Refusal>> for Ignored {
+    fn from(result: Result<bool, Refusal>) -> Ignored {
+        match result {
+            Ok(ignored) => Ignored { ignored: u32::from(ignored), ..Ignored::default() },
+            Err(r) => Ignored { refusal: r.number, ignored: 0, place: r.place },
+        }
+    }
+}
+
 impl From<Result<RollCall, Refusal>> for Present {
     fn from(result: Result<RollCall, Refusal>) -> Present {
         match result {
@@ -314,6 +355,40 @@ pub unsafe extern "C" fn independent_address_step(list: *const u8, n: usize, at:
 #[no_mangle]
 pub unsafe extern "C" fn independent_profile(m: *const u8, n: usize) -> Profiled {
     profile::profile(lent(m, n)).into()
+}
+
+/// # Safety
+/// `data` points to `n` readable bytes.
+#[no_mangle]
+pub unsafe extern "C" fn independent_route_step(data: *const u8, n: usize, at: usize) -> RouteStep {
+    RouteStep::of_step(routes::step(lent(data, n), at), at)
+}
+
+/// # Safety
+/// `m` points to `n` readable bytes.
+#[no_mangle]
+pub unsafe extern "C" fn independent_routes_ignored(
+    m: *const u8,
+    n: usize,
+    k0: u64,
+    k1: u64,
+    k2: u64,
+    k3: u64,
+) -> Ignored {
+    routes::ignored(lent(m, n), Codes([k0, k1, k2, k3])).into()
+}
+
+/// # Safety
+/// `given` points to `n` readable bytes, `out` to `room` bytes lent to this call
+/// alone.
+#[no_mangle]
+pub unsafe extern "C" fn independent_routes_write(
+    given: *const u8,
+    n: usize,
+    out: *mut u8,
+    room: usize,
+) -> Filled {
+    routes::write(lent(given, n), lent_mut(out, room)).into()
 }
 
 /// # Safety

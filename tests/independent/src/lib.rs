@@ -1,4 +1,4 @@
-//! Document 01, with requests 01 to 05 and 07 to 11 of document 02, written from their text
+//! Document 01, with requests 01 to 05, 07 to 11, 13 and 14 of document 02, written from their text
 //! alone, in plain Rust.
 //!
 //! `rules` is the implementation and has no unsafe code. `boundary` has the
@@ -11,3 +11,5 @@ pub mod rules;
 mod bench_table;
 #[cfg(test)]
 mod relay_table;
+#[cfg(test)]
+mod route_table;

@@ -19,6 +19,7 @@ const GROUPED_FIRST_SEED: u64 = 3001;
 const RELAYED_FIRST_SEED: u64 = 4001;
 const TALLIES_FIRST_SEED: u64 = 5001;
 const SHORT_TALLIES: u64 = 20_000;
+const ROUTED_FIRST_SEED: u64 = 6001;
 
 const USAGE: &str = "\
 usage: independent [MODE]
@@ -28,6 +29,7 @@ usage: independent [MODE]
   grouped N        N million grouped files, each with a class, and as many old sheets
   relay N          N million option 82s and as many sheets of sub-options
   tallies N        N thousand files of captures (request 11), each in any parts
+  routes N         N million option 121s, as many routes to be written and messages that are asked
   lines SEED N     N generated cases of request 09 with this package's answers
   captures [DIR]   the files *.bin of a folder (../vectors/captures)
   broken           wrong variants and wrong subjects, each of which has to be detected
@@ -43,6 +45,7 @@ fn main() {
         ["grouped", n] => n.parse().map_or_else(|_| usage(), grouped),
         ["relay", n] => n.parse().map_or_else(|_| usage(), relayed),
         ["tallies", n] => n.parse().map_or_else(|_| usage(), tallied),
+        ["routes", n] => n.parse().map_or_else(|_| usage(), routed),
         ["lines", seed, n] => match (seed.parse(), n.parse()) {
             (Ok(seed), Ok(n)) => printed(seed, n),
             _ => usage(),
@@ -153,6 +156,23 @@ fn relayed(millions: u64) -> i32 {
     }
     println!("{:.1} seconds", start.elapsed().as_secs_f64());
     run.counts.print_relay();
+    end(&run)
+}
+
+fn routed(millions: u64) -> i32 {
+    let mut run = new_run();
+    let start = Instant::now();
+    for seed in ROUTED_FIRST_SEED..ROUTED_FIRST_SEED + millions {
+        println!("seed {seed}, cases 0 to {}", LONG_CASES - 1);
+        for index in 0..LONG_CASES {
+            run.routed(seed, index);
+            if run.over() {
+                break;
+            }
+        }
+    }
+    println!("{:.1} seconds", start.elapsed().as_secs_f64());
+    run.counts.print_routes();
     end(&run)
 }
 

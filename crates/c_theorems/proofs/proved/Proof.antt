@@ -5,6 +5,7 @@ use Rattle.c_theorems.proofs.RelayRefused.{relay-records-refused, relay
 use Rattle.c_theorems.proofs.Shown.{lookup-for-c, absent-for-c, index-lookup-for-c, data-for-c, copy-for-c, present-for-c, addresses-for-c}
 use Rattle.c_theorems.proofs.Profiled.{profile-refused, profile-for-c, same-named-for-c}
 use Rattle.c_theorems.proofs.Written.{sheet-back-for-c, demand-3-for-c, others-for-c}
+use Rattle.c_theorems.proofs.Routed.{routes-write-refused, ignored-refused, ignored-for-c, route-step-for-c, routes-for-c, routes-back-for-c}
 use Rattle.c_theorems.proofs.proved.Statement.{statement}
 use Rattle.c_theorems.proofs.proved.Tie as tie
 
@@ -41,6 +42,12 @@ returns c = (
   sheet-back-for-c,
   demand-3-for-c,
   others-for-c,
+  routes-write-refused,
+  ignored-refused,
+  ignored-for-c,
+  route-step-for-c,
+  routes-for-c,
+  routes-back-for-c,
 )
 
 pub proved-spec : {M : Type 1} → statement M

@@ -11,7 +11,7 @@ use lib.ListN.{length}
 use Rattle.options.specs.Kinds.{Value, meaning}
 use Rattle.options.specs.Answers as asked
 use Rattle.kinds.specs.Numbers.{kindAt, kindNumbered, rowAt, lengthFits, valuesOf, breaksValue, valueFaultIn}
-use Rattle.kinds.proofs.ByKind.{value-10, value-12}
+use Rattle.kinds.proofs.ByKind.{value-10, value-12, value-13}
 use Rattle.lookup.specs.Found.{valueOf, contentBy}
 use Rattle.lookup.proofs.Verdicts.{broken-by}
 use Rattle.dhcpopt_reader.specs.Plain.{plainContent}
@@ -70,35 +70,48 @@ returns-4 c =
     let q : a .row % 16 ≡ 12 = sym (k .kind-of .ensures) ∙ c .before .if4 .taken in
     rw (by-rules (a .row) (a .d .now) (z .if1 .left), sym (l .length-fits .ensures) ∙ not-false _ (f .if2 .left), value-12 (a .row) (omega arith) q, q) (c .relay-content .ensures)
 
-value-fault-requires : tie.Need-value-fault-requires
-value-fault-requires c κs e = c .if4 .left (c .before .before .kind-of .ensures ∙ e)
-
-broken-requires-2 : tie.Need-broken-requires-2
-broken-requires-2 c κs = search needs
+routes-content-requires : tie.Need-routes-content-requires
+routes-content-requires c κs = search needs
 
 returns-5 : tie.Need-returns-5
 returns-5 c =
-    let v = c .before .before in
-    let f = v .before .before .before .before in
-    let l = f .before in
-    let z = l .before in
-    let a = z .before .before .args in
-    rw (by-rules (a .row) (a .d .now) (z .if1 .left), sym (l .length-fits .ensures) ∙ not-false _ (f .if2 .left), ← v .value-fault .ensures)
-    (c .broken2 .ensures ∙ ap (λ (x : Value). plainContent (asked.known x)) (broken-by (v .value-fault .result) _ (c .before .if5 .taken)))
-
-value-requires : tie.Need-value-requires
-value-requires c κs = search needs
-
-returns-6 : tie.Need-returns-6
-unfolding valueOf
-returns-6 c =
-    let v = c .before .before in
-    let k = v .before .before .before in
+    let k = c .before .before .before .before in
     let f = k .before in
     let l = f .before in
     let z = l .before in
     let a = z .before .before .args in
-    rw (by-rules (a .row) (a .d .now) (z .if1 .left), sym (l .length-fits .ensures) ∙ not-false _ (f .if2 .left), sym (v .value-fault .ensures) ∙ c .before .if5 .left)
+    let q : a .row % 16 ≡ 13 = sym (k .kind-of .ensures) ∙ c .before .if5 .taken in
+    rw (by-rules (a .row) (a .d .now) (z .if1 .left), sym (l .length-fits .ensures) ∙ not-false _ (f .if2 .left), value-13 (a .row) (omega arith) q, q) (c .routes-content .ensures)
+
+value-fault-requires : tie.Need-value-fault-requires
+value-fault-requires c κs = (λ e. c .before .if4 .left (c .before .before .before .kind-of .ensures ∙ e), λ e. c .if5 .left (c .before .before .before .kind-of .ensures ∙ e))
+
+broken-requires-2 : tie.Need-broken-requires-2
+broken-requires-2 c κs = search needs
+
+returns-6 : tie.Need-returns-6
+returns-6 c =
+    let v = c .before .before in
+    let f = v .before .before .before .before .before in
+    let l = f .before in
+    let z = l .before in
+    let a = z .before .before .args in
+    rw (by-rules (a .row) (a .d .now) (z .if1 .left), sym (l .length-fits .ensures) ∙ not-false _ (f .if2 .left), ← v .value-fault .ensures)
+    (c .broken2 .ensures ∙ ap (λ (x : Value). plainContent (asked.known x)) (broken-by (v .value-fault .result) _ (c .before .if6 .taken)))
+
+value-requires : tie.Need-value-requires
+value-requires c κs = search needs
+
+returns-7 : tie.Need-returns-7
+unfolding valueOf
+returns-7 c =
+    let v = c .before .before in
+    let k = v .before .before .before .before in
+    let f = k .before in
+    let l = f .before in
+    let z = l .before in
+    let a = z .before .before .args in
+    rw (by-rules (a .row) (a .d .now) (z .if1 .left), sym (l .length-fits .ensures) ∙ not-false _ (f .if2 .left), sym (v .value-fault .ensures) ∙ c .before .if6 .left)
     (c .value .ensures ∙ ap (λ (x : ℕ). plainContent (asked.known (meaning (kindAt x) (a .d .now)))) (k .kind-of .ensures))
 
 pub content-spec : {M : Type 1} → statement M
@@ -115,8 +128,10 @@ content-spec =
     returns-3
     relay-content-requires
     returns-4
+    routes-content-requires
+    returns-5
     value-fault-requires
     broken-requires-2
-    returns-5
+    returns-6
     value-requires
-    returns-6)
+    returns-7)

@@ -83,6 +83,9 @@ of-part-requires-5 c κs = search needs
 of-part-requires-6 : tie.Need-of-part-requires-6
 of-part-requires-6 c κs = search needs
 
+of-part-requires-7 : tie.Need-of-part-requires-7
+of-part-requires-7 c κs = search needs
+
 returns : tie.Need-returns
 unfolding valueOf meaning
 returns c = rw (c .before .before .match .keys1, ← c .before .first32 .ensures) (c .unsigned .ensures)
@@ -135,7 +138,11 @@ returns-11 c = rw (c .before .match .keys11) (c .of-part5 .ensures)
 
 returns-12 : tie.Need-returns-12
 unfolding valueOf meaning
-returns-12 c = rw (else-opaque (c .before .before .before .args .k) (c .before .match .rest .0) (c .before .match .rest .1)) (c .of-part6 .ensures)
+returns-12 c = rw (c .before .match .keys12) (c .of-part6 .ensures)
+
+returns-13 : tie.Need-returns-13
+unfolding valueOf meaning
+returns-13 c = rw (else-opaque (c .before .before .before .args .k) (c .before .match .rest .0 .0) (c .before .match .rest .0 .1) (c .before .match .rest .1)) (c .of-part7 .ensures)
 
 pub value-spec : {M : Type 1} → statement M
 value-spec =
@@ -165,6 +172,7 @@ value-spec =
     of-part-requires-4
     of-part-requires-5
     of-part-requires-6
+    of-part-requires-7
     returns
     returns-2
     returns-3
@@ -176,4 +184,5 @@ value-spec =
     returns-9
     returns-10
     returns-11
-    returns-12)
+    returns-12
+    returns-13)

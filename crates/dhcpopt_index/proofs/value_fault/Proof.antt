@@ -1,8 +1,8 @@
 -- `dhcpopt_index::value_fault` meets its contract: one of the rule's two parts. Assumes nothing.
 use borrow.Author.Needs.{needs}
-use borrow.Author.Tests.{ne-eqb}
 use mathlib.Core.Path.{sym, _∙_}
-use Prim.Native.Nat.{_%_}
+use native.Mathlib.Omega.{arith}
+use Rattle.dhcpopt_index.proofs.Used.{short-list}
 use Rattle.dhcpopt_index.proofs.value_fault.Statement.{statement}
 use Rattle.dhcpopt_index.proofs.value_fault.Tie as tie
 
@@ -16,7 +16,8 @@ returns : tie.Need-returns
 returns c =
     let e = c .before in
     let s = e .before .before .before in
-    rw (ne-eqb (s .args .row % 16) 12 (s .pre), sym (e .before .is-list .ensures) ∙ e .if1 .taken) at (c .short-list-fault .ensures)
+    let l = sym (e .before .is-list .ensures) ∙ e .if1 .taken in
+    rw (short-list (s .args .row) (omega arith) (s .pre .0) (s .pre .1) l, l) at (c .short-list-fault .ensures)
 
 number-fault-requires : tie.Need-number-fault-requires
 number-fault-requires c κs = search needs

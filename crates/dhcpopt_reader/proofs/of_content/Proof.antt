@@ -121,6 +121,12 @@ enum-known-x-14 c = search needs
 of-part-requires-7 : tie.Need-of-part-requires-7
 of-part-requires-7 c κs = search needs
 
+enum-known-x-15 : tie.Need-enum-known-x-15
+enum-known-x-15 c = search needs
+
+of-part-requires-8 : tie.Need-of-part-requires-8
+of-part-requires-8 c κs = search needs
+
 returns : tie.Need-returns
 returns c = c .of-part .ensures ∙ plain-of (c .before .before .x .given .1)
 
@@ -176,6 +182,9 @@ returns-13 c = c .of-part6 .ensures ∙ plain-of (c .before .before .x13 .given 
 returns-14 : tie.Need-returns-14
 returns-14 c = c .of-part7 .ensures ∙ plain-of (c .before .before .x14 .given .1)
 
+returns-15 : tie.Need-returns-15
+returns-15 c = c .of-part8 .ensures ∙ plain-of (c .before .before .x15 .given .1)
+
 pub of-content-spec : {M : Type 1} → statement M
 of-content-spec =
     tie.close
@@ -216,6 +225,8 @@ of-content-spec =
     of-part-requires-6
     enum-known-x-14
     of-part-requires-7
+    enum-known-x-15
+    of-part-requires-8
     returns
     returns-2
     returns-3
@@ -229,4 +240,5 @@ of-content-spec =
     returns-11
     returns-12
     returns-13
-    returns-14)
+    returns-14
+    returns-15)

@@ -1,7 +1,9 @@
 -- `kinds::fault` meets its contract: by the number of the code's row, or as `above_fault` says. Assumes nothing.
 use borrow.Author.Needs.{needs}
 use mathlib.Core.Path.{ap, _∙_}
-use Prim.Native.Nat.{ℕ}
+use Prim.Native.Nat.{ℕ, _%_}
+use native.Mathlib.Omega.{arith}
+use Rattle.ranges.proofs.Computed.{low-kind}
 use Rattle.kinds.specs.Numbers.{faultNumbered}
 use Rattle.kinds.proofs.Numbering.{fault-numbered}
 use Rattle.kinds.proofs.fault.Statement.{statement}
@@ -16,14 +18,16 @@ returns c = c .above-fault .ensures
 row-requires : tie.Need-row-requires
 row-requires c κs = search needs
 
-fault-in-requires : tie.Need-fault-in-requires
-fault-in-requires c κs = search needs
+low-fault-requires : tie.Need-low-fault-requires
+low-fault-requires c κs =
+    let a = c .before .before .before .args in
+    omega (arith, ap (λ (n : ℕ). n % 16) (c .row .ensures), low-kind (a .c) (omega arith))
 
 returns-2 : tie.Need-returns-2
 returns-2 c =
     let q = c .before in
     let a = q .before .before .before .args in
-    c .fault-in .ensures ∙ ap (λ (n : ℕ). faultNumbered n (a .d .now)) (q .row .ensures) ∙ fault-numbered (a .c) (a .d .now)
+    c .low-fault .ensures ∙ ap (λ (n : ℕ). faultNumbered n (a .d .now)) (q .row .ensures) ∙ fault-numbered (a .c) (a .d .now)
 
 pub fault-spec : {M : Type 1} → statement M
 fault-spec =
@@ -32,5 +36,5 @@ fault-spec =
     above-fault-requires
     returns
     row-requires
-    fault-in-requires
+    low-fault-requires
     returns-2)

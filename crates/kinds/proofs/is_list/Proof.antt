@@ -4,7 +4,7 @@ use mathlib.Core.Path.{sym}
 use Prim.Native.Nat.{_%_}
 use mir.Syntax.{Arms}
 use Rattle.kinds.proofs.Entries.{armsOf, unlisted}
-use Rattle.kinds.proofs.ByKind.{list-3, list-7, list-10, list-12, listless, no-list}
+use Rattle.kinds.proofs.ByKind.{list-3, list-7, list-10, list-12, list-13, listless, no-list}
 use Rattle.kinds.proofs.is_list.Statement.{statement}
 use Rattle.kinds.proofs.is_list.Tie as tie
 use Rattle.kinds.proofs.is_list.Lts as lts
@@ -26,7 +26,10 @@ returns-4 : tie.Need-returns-4
 returns-4 c = sym (list-12 _ (omega arith) (c .match .keys4))
 
 returns-5 : tie.Need-returns-5
-returns-5 c =
+returns-5 c = sym (list-13 _ (omega arith) (c .match .keys5))
+
+returns-6 : tie.Need-returns-6
+returns-6 c =
     let n = c .before .args .row in
     sym (no-list n (omega arith) (unlisted listless arms (n % 16) tt (omega arith) (c .match .rest)))
 
@@ -38,4 +41,5 @@ is-list-spec =
     returns-2
     returns-3
     returns-4
-    returns-5)
+    returns-5
+    returns-6)

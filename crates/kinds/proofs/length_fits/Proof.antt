@@ -6,7 +6,7 @@ use Prim.Native.Nat.{_%_}
 use mir.Syntax.{Arms}
 use Rattle.kinds.specs.Numbers.{rowAt}
 use Rattle.kinds.proofs.Entries.{armsOf, unlisted}
-use Rattle.kinds.proofs.ByKind.{length-1, length-2, length-3, length-4, length-5, length-6, length-7, length-8, length-9, length-10, length-11, length-12, kindless, no-length}
+use Rattle.kinds.proofs.ByKind.{length-1, length-2, length-3, length-4, length-5, length-6, length-7, length-8, length-9, length-10, length-11, length-12, length-13, kindless, no-length}
 use Rattle.kinds.proofs.length_fits.Statement.{statement}
 use Rattle.kinds.proofs.length_fits.Tie as tie
 use Rattle.kinds.proofs.length_fits.Lts as lts
@@ -47,6 +47,9 @@ stepped-requires-7 c κs = search needs
 stepped-requires-8 : tie.Need-stepped-requires-8
 stepped-requires-8 c κs = search needs
 
+stepped-requires-9 : tie.Need-stepped-requires-9
+stepped-requires-9 c κs = search needs
+
 returns-3 : tie.Need-returns-3
 returns-3 c = rw (length-1 _ (omega arith) (c .match .keys1))
 
@@ -84,7 +87,10 @@ returns-14 : tie.Need-returns-14
 returns-14 c = rw (length-12 _ (omega arith) (c .before .match .keys12)) (c .stepped8 .ensures)
 
 returns-15 : tie.Need-returns-15
-returns-15 c =
+returns-15 c = rw (length-13 _ (omega arith) (c .before .match .keys13)) (c .stepped9 .ensures)
+
+returns-16 : tie.Need-returns-16
+returns-16 c =
     let n = c .before .args .row in
     rw (no-length n (omega arith) (unlisted kindless arms (n % 16) tt (omega arith) (c .match .rest)))
 
@@ -102,6 +108,7 @@ length-fits-spec =
     returns-2
     stepped-requires-7
     stepped-requires-8
+    stepped-requires-9
     returns-3
     returns-4
     returns-5
@@ -114,4 +121,5 @@ length-fits-spec =
     returns-12
     returns-13
     returns-14
-    returns-15)
+    returns-15
+    returns-16)

@@ -2,7 +2,7 @@
 use borrow.Author.Needs.{needs}
 use borrow.Author.Tests.{not-true, not-false}
 use mathlib.Core.Path.{sym, _∙_}
-use Rattle.kinds.proofs.Relay.{relay-rules}
+use Rattle.kinds.proofs.High.{relay-rules}
 use Rattle.kinds.proofs.relay_fault.Statement.{statement}
 use Rattle.kinds.proofs.relay_fault.Tie as tie
 

@@ -1,28 +1,25 @@
--- `kinds::value_fault` meets its contract: that of relay information, or one of the rule's two parts. Assumes nothing.
+-- `kinds::value_fault` meets its contract: one of the parts of the rule. Assumes nothing.
 use borrow.Author.Needs.{needs}
-use borrow.Author.Tests.{ne-eqb}
+use borrow.Author.Tests.{le-leb, lt-leb}
 use native.Mathlib.Omega.{arith}
 use mathlib.Core.Path.{sym, _∙_}
-use Rattle.options.specs.Kinds.{valueFault}
-use Rattle.kinds.proofs.ByKind.{value-12}
 use Rattle.kinds.proofs.value_fault.Statement.{statement}
 use Rattle.kinds.proofs.value_fault.Tie as tie
 
 is-list-requires : tie.Need-is-list-requires
 is-list-requires c κs = search needs
 
-suboptions-fault-requires : tie.Need-suboptions-fault-requires
-suboptions-fault-requires c κs = search needs
+long-list-fault-requires : tie.Need-long-list-fault-requires
+long-list-fault-requires c κs = search needs
 
 returns : tie.Need-returns
-unfolding valueFault
-returns c = let k = c .before .if2 .taken in rw (value-12 _ (omega arith) k) (c .suboptions-fault .ensures)
+returns c = let e = c .before .before in rw (le-leb 12 _ (c .before .if2 .taken), sym (e .before .is-list .ensures) ∙ e .if1 .taken) at (c .long-list-fault .ensures)
 
 short-list-fault-requires : tie.Need-short-list-fault-requires
 short-list-fault-requires c κs = search needs
 
 returns-2 : tie.Need-returns-2
-returns-2 c = let e = c .before .before in rw (ne-eqb _ 12 (c .before .if2 .left), sym (e .before .is-list .ensures) ∙ e .if1 .taken) at (c .short-list-fault .ensures)
+returns-2 c = let e = c .before .before in rw (lt-leb 12 _ (c .before .if2 .left), sym (e .before .is-list .ensures) ∙ e .if1 .taken) at (c .short-list-fault .ensures)
 
 number-fault-requires : tie.Need-number-fault-requires
 number-fault-requires c κs = search needs
@@ -35,7 +32,7 @@ value-fault-spec =
     tie.close
     (tie.spec
     is-list-requires
-    suboptions-fault-requires
+    long-list-fault-requires
     returns
     short-list-fault-requires
     returns-2

@@ -81,7 +81,11 @@ returns-11 c = rw (c .match .keys11)
 
 returns-12 : tie.Need-returns-12
 unfolding meaningOf
-returns-12 c = rw (else-opaque (c .before .before .args .k) (c .match .rest .0) (c .match .rest .1))
+returns-12 c = rw (c .match .keys12)
+
+returns-13 : tie.Need-returns-13
+unfolding meaningOf
+returns-13 c = rw (else-opaque (c .before .before .args .k) (c .match .rest .0 .0) (c .match .rest .0 .1) (c .match .rest .1))
 
 pub joined-value-spec : {M : Type 1} → statement M
 joined-value-spec =
@@ -106,4 +110,5 @@ joined-value-spec =
     returns-9
     returns-10
     returns-11
-    returns-12)
+    returns-12
+    returns-13)

@@ -16,7 +16,7 @@ use Rattle.theorems.proofs.Copies.{copy-is-the-options, copy-room-is-en
 use Rattle.theorems.proofs.Longest.{options-are-short}
 use Rattle.theorems.proofs.Decimals.{decimal-is-right, decimal-is-one}
 use Rattle.theorems.proofs.Listings.{listing-is-correct}
-use Rattle.theorems.proofs.Addresses.{steps-give-the-addresses, addresses-are-the-bytes}
+use Rattle.theorems.proofs.Addresses.{steps-give-the-addresses, step-is-the-address, addresses-are-the-bytes}
 use Rattle.theorems.proofs.Entries.{one-index, no-code-no-entry}
 use Rattle.theorems.proofs.Indexes.{build-is-right, answers-as-plain, answers-by-the-words, indexed-lookup-is-correct}
 use Rattle.theorems.proofs.Cases.{cases-hold}
@@ -84,6 +84,7 @@ returns c = (
   decimal-is-one,
   listing-is-correct,
   steps-give-the-addresses,
+  step-is-the-address,
   addresses-are-the-bytes,
   one-index,
   no-code-no-entry,

@@ -38,6 +38,8 @@ pub enum Kind {
     Opaque = 11,
     /// Request 09.
     Relay = 12,
+    /// Request 14.
+    Routes = 13,
 }
 
 /// "the field that holds its code byte (options, file, sname)"
@@ -99,6 +101,14 @@ pub struct Listed {
     pub size: usize,
     pub circuit: Option<Part>,
     pub remote: Option<Part>,
+}
+
+/// "destination with bits past the width cleared, width and router" (request 14)
+#[derive(Clone, Copy, PartialEq, Eq, Debug)]
+pub struct Route {
+    pub destination: u32,
+    pub width: u8,
+    pub router: u32,
 }
 
 /// A set of codes: "code c standing at bit c mod 64 of word c div 64".

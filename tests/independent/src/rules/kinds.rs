@@ -23,6 +23,12 @@ impl Fault {
 /// "option 82 of RFC 3046"
 pub const RELAY_INFORMATION: u8 = 82;
 
+/// "RFC 3442, option 121"
+pub const CLASSLESS_ROUTES: u8 = 121;
+
+/// "a width byte 0 to 32"
+const WIDEST: u8 = 32;
+
 /// The row of a code.
 pub fn kind_of(code: u8) -> Option<Kind> {
     ROWS[usize::from(code)]
@@ -39,6 +45,7 @@ static ROWS: [Option<Kind>; 256] = {
 };
 
 /// "Codes 62, 63 and 77 to 254 have no row." Request 09: "Give it a row".
+/// Request 14 gives 121 a kind.
 /// Request 10 retires 8, 10 and 34.
 const fn row(code: u8) -> Option<Kind> {
     match code {
@@ -54,6 +61,7 @@ const fn row(code: u8) -> Option<Kind> {
         12 | 14 | 15 | 17 | 18 | 40 | 56 | 64 | 66 | 67 => Some(Kind::Text),
         43 | 47 | 55 | 60 | 61 => Some(Kind::Opaque),
         RELAY_INFORMATION => Some(Kind::Relay),
+        CLASSLESS_ROUTES => Some(Kind::Routes),
         _ => None,
     }
 }
@@ -65,6 +73,9 @@ pub fn judge(kind: Kind, code: u8, data: &[u8]) -> Result<(), Fault> {
     }
     if kind == Kind::Relay && !sub_options_fill(data) {
         return Err(Fault::Length);
+    }
+    if kind == Kind::Routes {
+        return judge_routes(data);
     }
     if !value_fits(kind, code, data) {
         return Err(Fault::Value);
@@ -86,7 +97,26 @@ fn length_fits(kind: Kind, code: u8, length: usize) -> bool {
         Kind::Opaque => length >= if code == 61 { 2 } else { 1 },
         // 8 "where sub-options [...] are under 2 bytes"
         Kind::Relay => length >= 2,
+        // "length at least 5"
+        Kind::Routes => length >= 5,
     }
+}
+
+/// Request 14: "the earlier route first, 9 for a width over 32 and 8 for a route cut
+/// short"
+fn judge_routes(data: &[u8]) -> Result<(), Fault> {
+    let mut rest = data;
+    while let [width, after @ ..] = rest {
+        if *width > WIDEST {
+            return Err(Fault::Value);
+        }
+        // "the width's whole and begun bytes of destination, four bytes of router"
+        let Some(left) = after.get(usize::from(*width).div_ceil(8) + 4..) else {
+            return Err(Fault::Length);
+        };
+        rest = left;
+    }
+    Ok(())
 }
 
 /// Request 09: 8 "where sub-options don't fill the data exactly"; "sub-options of

@@ -6,7 +6,9 @@ use super::compare::Run;
 use super::library::library;
 use super::sides::{independent_rules, own_exports, yardstick, Subject, Yardstick};
 use super::tallies::{self, tally_of, TallyOf};
-use independent::boundary::{self, Answer, Extent, Filled, Present, Profiled, Relay, Wrote};
+use independent::boundary::{
+    self, Answer, Extent, Filled, Ignored, Present, Profiled, Relay, RouteStep, Wrote,
+};
 use std::panic;
 
 include!(concat!(env!("OUT_DIR"), "/variants.rs"));
@@ -33,6 +35,7 @@ pub fn run() -> i32 {
     let mut subjects = subjects();
     subjects.extend(relay_subjects());
     subjects.extend(profile_subjects());
+    subjects.extend(route_subjects());
     panic::set_hook(Box::new(|_| ()));
     for &(name, rules) in &VARIANTS {
         failed += usize::from(!told("variant", name, library(), rules));
@@ -281,6 +284,115 @@ wrong_sub_options!(refused_touch, |_s, out, room, filled| if filled.refusal == 8
 });
 wrong_sub_options!(refused_sized, |_s, _out, room, filled| if filled.refusal == 11 {
     filled.size = room;
+});
+
+/// The same, of request 14.
+fn route_subjects() -> Vec<(&'static str, Subject)> {
+    let own = own_exports();
+    vec![
+        ("a walk that is done with a router", Subject { route_step: done_with_router, ..own }),
+        ("a walk that is done with a width", Subject { route_step: done_with_width, ..own }),
+        ("a walk that is done at 0", Subject { route_step: done_at_0, ..own }),
+        ("a route given as another number", Subject { route_step: given_as_two, ..own }),
+        ("a route step changes the data", Subject { route_step: step_changes, ..own }),
+        ("routes written before the lent ones", Subject { routes_write: routes_before, ..own }),
+        ("routes written past the lent ones", Subject { routes_write: routes_past, ..own }),
+        ("a routes write changes the routes", Subject { routes_write: routes_change, ..own }),
+        ("a refused routes write touches a byte", Subject { routes_write: routes_touch, ..own }),
+        ("a refused routes write with a size", Subject { routes_write: routes_sized, ..own }),
+        ("a routes write with a place", Subject { routes_write: routes_placed, ..own }),
+        ("ignored with a place", Subject { routes_ignored: ignored_placed, ..own }),
+        ("not ignored with a place", Subject { routes_ignored: not_ignored_placed, ..own }),
+        ("refused and ignored", Subject { routes_ignored: refused_ignored, ..own }),
+        ("ignored as another number", Subject { routes_ignored: ignored_as_two, ..own }),
+        ("the question changes the message", Subject { routes_ignored: ignored_changes, ..own }),
+    ]
+}
+
+/// A step over routes, with something that it may not do or answer.
+macro_rules! wrong_step {
+    ($name:ident, |$data:ident, $n:ident, $step:ident| $done:expr) => {
+        unsafe extern "C" fn $name($data: *const u8, $n: usize, at: usize) -> RouteStep {
+            #[allow(unused_mut)]
+            let mut $step = boundary::independent_route_step($data, $n, at);
+            $done;
+            $step
+        }
+    };
+}
+
+wrong_step!(done_with_router, |_data, _n, step| if step.given == 0 {
+    step.router = 1;
+});
+wrong_step!(done_with_width, |_data, _n, step| if step.given == 0 {
+    step.width = 33;
+});
+wrong_step!(done_at_0, |_data, _n, step| if step.given == 0 {
+    step.next = 0;
+});
+wrong_step!(given_as_two, |_data, _n, step| step.given *= 2);
+wrong_step!(step_changes, |data, n, step| if step.given == 1 && n > 0 {
+    *data.cast_mut().add(n - 1) ^= 1;
+});
+
+/// A writer of routes, the same.
+macro_rules! wrong_routes {
+    ($name:ident, |$s:ident, $out:ident, $room:ident, $filled:ident| $done:expr) => {
+        unsafe extern "C" fn $name($s: *const u8, n: usize, $out: *mut u8, $room: usize) -> Filled {
+            #[allow(unused_mut)]
+            let mut $filled = boundary::independent_routes_write($s, n, $out, $room);
+            $done;
+            $filled
+        }
+    };
+}
+
+wrong_routes!(routes_before, |_s, out, _room, filled| *out.sub(1) ^= 1);
+wrong_routes!(routes_past, |_s, out, room, filled| *out.add(room) ^= 1);
+wrong_routes!(routes_change, |s, _out, _room, filled| if filled.size > 0 {
+    *s.cast_mut() ^= 1;
+});
+wrong_routes!(routes_touch, |_s, out, room, filled| if filled.refusal == 26 && room > 0 {
+    *out ^= 1;
+});
+wrong_routes!(routes_sized, |_s, _out, room, filled| if filled.refusal == 11 {
+    filled.size = room;
+});
+wrong_routes!(routes_placed, |_s, _out, room, filled| if filled.refusal == 0 {
+    filled.place = room;
+});
+
+/// The question whether 3 and 33 are ignored, the same.
+macro_rules! wrong_ignored {
+    ($name:ident, |$m:ident, $answer:ident| $done:expr) => {
+        unsafe extern "C" fn $name(
+            $m: *const u8,
+            n: usize,
+            k0: u64,
+            k1: u64,
+            k2: u64,
+            k3: u64,
+        ) -> Ignored {
+            #[allow(unused_mut)]
+            let mut $answer = boundary::independent_routes_ignored($m, n, k0, k1, k2, k3);
+            $done;
+            $answer
+        }
+    };
+}
+
+wrong_ignored!(ignored_placed, |_m, answer| if answer.ignored == 1 {
+    answer.place = 240;
+});
+wrong_ignored!(not_ignored_placed, |_m, answer| if answer.ignored + answer.refusal == 0 {
+    answer.place = 240;
+});
+wrong_ignored!(refused_ignored, |_m, answer| if answer.refusal == 9 {
+    answer.ignored = 1;
+});
+wrong_ignored!(ignored_as_two, |_m, answer| answer.ignored *= 2);
+wrong_ignored!(ignored_changes, |m, answer| if answer.ignored == 1 {
+    *m.cast_mut().add(240) ^= 1;
 });
 
 unsafe extern "C" fn writes_before(m: *const u8, n: usize, out: *mut u8, room: usize) -> Filled {

@@ -7,9 +7,10 @@ use super::lent::Lent;
 use super::rng::Rng;
 use super::sheets::Needs;
 use super::sides::{Subject, Yardstick};
-use super::{groups, messages, relay, sheets, vendor};
-use independent::boundary::{Answer, Filled};
-use independent::rules::answers::Codes;
+use super::{groups, messages, relay, routes, sheets, vendor};
+use independent::boundary::{Answer, Filled, RouteStep};
+use independent::rules::answers::{Codes, Kind};
+use independent::rules::kinds::CLASSLESS_ROUTES;
 use std::fmt::Debug;
 
 /// After so many differences a run ends.
@@ -104,7 +105,23 @@ impl Run {
         if index.is_multiple_of(8) {
             self.grouped(seed, index);
             self.relayed(seed, index);
+            self.routed(seed, index);
         }
+    }
+
+    /// The bytes of one generated option 121, routes to be written, and a message.
+    pub fn routed(&mut self, seed: u64, index: u64) {
+        self.case =
+            if self.quiet { String::new() } else { format!("routes, seed {seed} index {index}") };
+        let mut rng = Rng::of_case(seed ^ 0x5214, index);
+        let mut bytes = std::mem::take(&mut self.bytes);
+        routes::bytes(&mut rng, &mut bytes);
+        self.routes(&mut rng, &bytes);
+        routes::given(&mut rng, &mut bytes);
+        self.given_routes(&mut rng, &bytes);
+        messages::message(&mut rng, &mut bytes);
+        self.ignored_in(&mut rng, &bytes);
+        self.bytes = bytes;
     }
 
     /// The bytes of one generated option 82, and one sheet of sub-options.
@@ -348,6 +365,12 @@ impl Run {
 
         if answer.status == 4 && matches!(answer.kind, 2 | 3) {
             self.walk(data.start, data.length);
+        }
+        if code == CLASSLESS_ROUTES {
+            self.ignored(known);
+            if data.start + data.length <= self.input.len() {
+                self.route_walk(data.start, data.length);
+            }
         }
     }
 
@@ -670,6 +693,115 @@ impl Run {
         if answer.refusal != 0 || answer.size != sheet.len() || self.theirs.middle() != sheet {
             let got = format!("{answer:?} {}", hex(self.theirs.middle()));
             self.differ("records of written sub-options", &got, &hex(sheet));
+        }
+    }
+
+    /// Walks the routes of one option 121, and steps from any places.
+    pub fn routes(&mut self, rng: &mut Rng, bytes: &[u8]) {
+        self.counts.routes += 1;
+        self.hold_input(rng, bytes);
+        self.route_walk(0, bytes.len());
+        for _ in 0..6 {
+            let at = routes::place(rng, bytes.len());
+            self.route_step(0, bytes.len(), at);
+        }
+        self.input_unchanged();
+    }
+
+    fn route_walk(&mut self, start: usize, length: usize) -> Vec<RouteStep> {
+        let mut met = Vec::new();
+        let mut at = 0;
+        while at <= length && !self.over() {
+            let step = self.route_step(start, length, at);
+            if step.given == 0 {
+                break;
+            }
+            met.push(step);
+            at = step.next;
+        }
+        met
+    }
+
+    fn route_step(&mut self, start: usize, length: usize, at: usize) -> RouteStep {
+        let data = self.input.pointer().wrapping_add(start);
+        let theirs = unsafe { (self.subject.route_step)(data, length, at) };
+        let ours = (self.yardstick.route_step)(&self.input.middle()[start..][..length], at);
+        self.counts.route_step(&theirs);
+        self.equal(|| format!("route step at {at} of {start}, {length}"), &theirs, &ours);
+        theirs
+    }
+
+    /// Writes routes of nine bytes each into outputs of several lengths.
+    pub fn given_routes(&mut self, rng: &mut Rng, bytes: &[u8]) {
+        self.counts.routes += 1;
+        let size = routes::length(bytes);
+        let any = rng.below(size + 40);
+        for room in [size, size.saturating_sub(1), size + 1, 0, any] {
+            self.hold_input(rng, bytes);
+            self.routes_write(rng, bytes, size, room);
+            self.input_unchanged();
+        }
+    }
+
+    fn routes_write(&mut self, rng: &mut Rng, given: &[u8], size: usize, room: usize) {
+        self.theirs.any(rng, room);
+        self.ours.copy(&self.theirs);
+        let (s, n) = (self.input.pointer(), self.input.len());
+        let out = self.theirs.pointer();
+        let filled = unsafe { (self.subject.routes_write)(s, n, out, room) };
+        let ours = (self.yardstick.routes_write)(self.input.middle(), self.ours.middle_mut());
+        self.counts.routes_write(&filled, size, room);
+        let name = || format!("routes written into {room} bytes");
+        self.equal(name, &filled, &ours);
+        self.equal_lent(name);
+        if filled.refusal == 0 && filled.size <= room {
+            self.routes_back(rng, given, filled.size);
+        }
+    }
+
+    /// "its bytes walk back as exactly the routes given, in order"
+    fn routes_back(&mut self, rng: &mut Rng, given: &[u8], size: usize) {
+        let written = self.theirs.middle()[..size].to_vec();
+        self.hold_input(rng, &written);
+        let met = self.route_walk(0, size);
+        let mut nine = Vec::new();
+        for step in &met {
+            nine.push(step.width as u8);
+            nine.extend(step.destination.to_be_bytes());
+            nine.extend(step.router.to_be_bytes());
+        }
+        self.counts.routes_back += 1;
+        if nine != given || met.last().map_or(0, |step| step.next) != size {
+            self.differ("the walk of written routes", &hex(&nine), &hex(given));
+        }
+        self.hold_input(rng, given);
+    }
+
+    /// Asks of one message whether 3 and 33 are ignored, with several known sets.
+    pub fn ignored_in(&mut self, rng: &mut Rng, bytes: &[u8]) {
+        self.counts.routes += 1;
+        self.hold_input(rng, bytes);
+        for _ in 0..3 {
+            let known = known_set(rng, CLASSLESS_ROUTES);
+            self.ignored(known);
+        }
+        self.input_unchanged();
+    }
+
+    fn ignored(&mut self, known: Codes) {
+        let (m, n) = (self.input.pointer(), self.input.len());
+        let [k0, k1, k2, k3] = known.0;
+        let theirs = unsafe { (self.subject.routes_ignored)(m, n, k0, k1, k2, k3) };
+        let ours = (self.yardstick.routes_ignored)(self.input.middle(), known);
+        self.counts.ignored(&theirs);
+        self.equal(|| format!("3 and 33 ignored, known set {:x?}", known.0), &theirs, &ours);
+        // "exactly where a lookup of 121 with that set answers with its kind"
+        let answer = unsafe { (self.subject.lookup)(m, n, k0, k1, k2, k3, CLASSLESS_ROUTES) };
+        let kind = answer.kind == Kind::Routes as u32;
+        if (kind, answer.refusal, answer.place)
+            != (theirs.ignored == 1, theirs.refusal, theirs.place)
+        {
+            self.differ("3 and 33 ignored beside the lookup", &theirs, &answer);
         }
     }
 

@@ -2,7 +2,9 @@
 
 use super::index::{fault, UNUSABLE};
 use super::messages::goes_across;
-use independent::boundary::{Address, Answer, Extent, Filled, Present, Relay, Wrote};
+use independent::boundary::{
+    Address, Answer, Extent, Filled, Ignored, Present, Relay, RouteStep, Wrote,
+};
 use independent::rules::answers::{Codes, Kind};
 use independent::rules::kinds::kind_of;
 use independent::rules::reading::{walk, COOKIE, FILE, OPTIONS, OVERLOAD, SNAME};
@@ -18,10 +20,10 @@ const STATUS_FOUND: [(usize, &str); 4] =
     [(1, "unknown"), (3, "number"), (4, "part"), (5, "broken")];
 
 /// The kinds, and none of them at 0.
-const KINDS: usize = 13;
+const KINDS: usize = 14;
 
-/// The refusals to 23, and none at 0.
-const REFUSALS: usize = 24;
+/// The refusals to 26, and none at 0.
+const REFUSALS: usize = 27;
 
 /// Refusals by number; at 0 the calls that were not refused.
 type Refusals = [u64; REFUSALS];
@@ -57,6 +59,18 @@ pub struct Counts {
     /// Option 82s and sheets of sub-options.
     pub relays: u64,
     pub relay_back: u64,
+    /// Steps over routes: done, given; and those given by their width.
+    route_step: [u64; 2],
+    width: [u64; 33],
+    routes_write: Refusals,
+    /// Lent for routes: exactly, one short, longer, none at all.
+    routes_lent: [u64; 4],
+    /// Of the question whether 3 and 33 are ignored; its answers no and yes.
+    ignored: Refusals,
+    ignored_said: [u64; 2],
+    /// Option 121s, routes to be written, and messages that are asked.
+    pub routes: u64,
+    pub routes_back: u64,
     /// Written items read back as their sheet.
     pub vendor_back: u64,
     index_build: Refusals,
@@ -148,6 +162,14 @@ impl Counts {
             relay_id: [[0; 3]; 2],
             relays: 0,
             relay_back: 0,
+            route_step: [0; 2],
+            width: [0; 33],
+            routes_write: [0; REFUSALS],
+            routes_lent: [0; 4],
+            ignored: [0; REFUSALS],
+            ignored_said: [0; 2],
+            routes: 0,
+            routes_back: 0,
             vendor_back: 0,
             index_build: [0; REFUSALS],
             index_lookup: [0; REFUSALS],
@@ -404,6 +426,52 @@ impl Counts {
         missing.one("write refusal 23", self.write[23]);
     }
 
+    pub fn route_step(&mut self, step: &RouteStep) {
+        self.calls += 1;
+        self.route_step[usize::from(step.given > 0)] += 1;
+        if step.given > 0 {
+            add(&mut self.width, step.width as usize);
+        }
+    }
+
+    /// `size` is what the routes take as data of option 121.
+    pub fn routes_write(&mut self, filled: &Filled, size: usize, room: usize) {
+        self.calls += 1;
+        add(&mut self.routes_write, filled.refusal as usize);
+        if let 0 | 11 = filled.refusal {
+            add_room(&mut self.routes_lent, Some(size), room);
+        }
+    }
+
+    pub fn ignored(&mut self, answer: &Ignored) {
+        self.calls += 2;
+        add(&mut self.ignored, answer.refusal as usize);
+        if answer.refusal == 0 {
+            add(&mut self.ignored_said, answer.ignored as usize);
+        }
+    }
+
+    pub fn print_routes(&self) {
+        println!("classless routes {}", self.routes);
+        println!("route step: given {}, done {}", self.route_step[1], self.route_step[0]);
+        println!("route step, given by width: {:?}", self.width);
+        print_refusals("routes_write", &self.routes_write);
+        println!("routes, lent exactly, one short, longer, none: {:?}", self.routes_lent);
+        println!("routes, written and walked back: {}", self.routes_back);
+        print_refusals("routes_ignored", &self.ignored);
+        println!("routes_ignored: yes {}, no {}", self.ignored_said[1], self.ignored_said[0]);
+    }
+
+    fn missing_routes(&self, missing: &mut Missing) {
+        missing.all("route step", &self.route_step);
+        missing.all("route step of width", &self.width);
+        missing.refusals("routes_write", &self.routes_write, &[0, 11, 26]);
+        missing.all("routes_write lent", &self.routes_lent);
+        missing.one("routes, written and walked back", self.routes_back);
+        missing.refusals("routes_ignored", &self.ignored, &[0, 1, 2, 3, 4, 5, 6, 7, 8, 9]);
+        missing.all("routes_ignored, no and yes", &self.ignored_said);
+    }
+
     pub fn index_build(&mut self, filled: &Filled) {
         self.calls += 1;
         add(&mut self.index_build, filled.refusal as usize);
@@ -423,9 +491,10 @@ impl Counts {
         }
     }
 
-    /// Messages, sheets, lists, vendor and relay information and indexes together.
+    /// Messages, sheets, lists, vendor and relay information, routes and indexes together.
     pub fn compared(&self) -> u64 {
-        self.messages + self.sheets + self.lists + self.vendors + self.relays + self.indexes
+        let inside = self.vendors + self.relays + self.routes;
+        self.messages + self.sheets + self.lists + inside + self.indexes
     }
 
     pub fn print(&self) {
@@ -447,6 +516,7 @@ impl Counts {
         println!("vendor, 255 bytes given, 256 refused: {:?}", self.vendor_full);
         println!("vendor, written and read back: {}", self.vendor_back);
         self.print_relay();
+        self.print_routes();
         print_refusals("index_build", &self.index_build);
         print_refusals("index_lookup", &self.index_lookup);
         let [same, otherwise] = self.stale;
@@ -536,6 +606,7 @@ impl Counts {
         missing.refusals("records", &self.records, &[0, 1, 2, 3, 4, 5, 6, 7, 11]);
         missing.refusals("write", &self.write, &[0, 1, 2, 7, 8, 9, 10, 11, 12, 13, 14, 15, 16, 23]);
         self.missing_relay(&mut missing);
+        self.missing_routes(&mut missing);
         missing.refusals("vendor_records", &self.vendor_records, &[0, 11, 17]);
         missing.refusals("vendor_write", &self.vendor_write, &[0, 10, 11, 12, 13, 16]);
         missing.all("vendor_records lent", &self.vendor_lent[0]);
@@ -675,7 +746,7 @@ fn breaks_length(code: u8) -> bool {
 
 fn breaks_value(code: u8) -> bool {
     match kind_of(code) {
-        Some(Kind::Flag | Kind::List16 | Kind::Text) => true,
+        Some(Kind::Flag | Kind::List16 | Kind::Text | Kind::Routes) => true,
         Some(Kind::OneByte) => code != OVERLOAD,
         Some(Kind::Number16) => code != 13,
         Some(Kind::AddressPairs) => code == 33,

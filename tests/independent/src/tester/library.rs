@@ -1,8 +1,8 @@
-//! The library under test: three static archives.
+//! The library under test: five static archives.
 
 use super::sides::Subject;
 use independent::boundary::{
-    Address, Answer, Checked, Extent, Filled, Present, Profiled, Relay, Wrote,
+    Address, Answer, Checked, Extent, Filled, Ignored, Present, Profiled, Relay, RouteStep, Wrote,
 };
 
 #[link(name = "dhcpopt_reader", kind = "static")]
@@ -66,6 +66,20 @@ extern "C" {
     fn dhcpopt_profile(m: *const u8, n: usize) -> Profiled;
 }
 
+#[link(name = "dhcpopt_routes", kind = "static")]
+extern "C" {
+    fn dhcpopt_route_step(data: *const u8, n: usize, at: usize) -> RouteStep;
+    fn dhcpopt_routes_ignored(
+        m: *const u8,
+        n: usize,
+        k0: u64,
+        k1: u64,
+        k2: u64,
+        k3: u64,
+    ) -> Ignored;
+    fn dhcpopt_routes_write(given: *const u8, n: usize, out: *mut u8, room: usize) -> Filled;
+}
+
 pub fn library() -> Subject {
     Subject {
         lookup: dhcpopt_lookup,
@@ -81,6 +95,9 @@ pub fn library() -> Subject {
         vendor_write: dhcpopt_vendor_write,
         relay_records: dhcpopt_relay_records,
         relay_write: dhcpopt_relay_write,
+        route_step: dhcpopt_route_step,
+        routes_ignored: dhcpopt_routes_ignored,
+        routes_write: dhcpopt_routes_write,
         index_build: dhcpopt_index_build,
         index_lookup: dhcpopt_index_lookup,
         check: dhcpopt_check_grouped,

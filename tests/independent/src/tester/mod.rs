@@ -14,6 +14,7 @@ mod messages;
 mod relay;
 mod replies;
 mod rng;
+mod routes;
 mod sheets;
 pub mod sides;
 pub mod tallies;

@@ -2,7 +2,7 @@
 //! functions, and the yardstick, by safe ones.
 
 use independent::boundary::{
-    Address, Answer, Checked, Extent, Filled, Present, Profiled, Relay, Wrote,
+    Address, Answer, Checked, Extent, Filled, Ignored, Present, Profiled, Relay, RouteStep, Wrote,
 };
 use independent::rules::answers::Codes;
 
@@ -11,6 +11,8 @@ type AskedText = unsafe extern "C" fn(*const u8, usize, u64, u64, u64, u64, u8) 
 
 type AskedThrough =
     unsafe extern "C" fn(*const u8, usize, *const u16, usize, u64, u64, u64, u64, u8) -> Answer;
+
+type AskedIgnored = unsafe extern "C" fn(*const u8, usize, u64, u64, u64, u64) -> Ignored;
 
 type Chosen = unsafe extern "C" fn(*const u8, usize, *const u8, usize, *mut u8, usize) -> Filled;
 
@@ -30,6 +32,9 @@ pub struct Subject {
     pub vendor_write: unsafe extern "C" fn(*const u8, usize, *mut u8, usize) -> Filled,
     pub relay_records: unsafe extern "C" fn(*const u8, usize, *mut u8, usize) -> Relay,
     pub relay_write: unsafe extern "C" fn(*const u8, usize, *mut u8, usize) -> Filled,
+    pub route_step: unsafe extern "C" fn(*const u8, usize, usize) -> RouteStep,
+    pub routes_ignored: AskedIgnored,
+    pub routes_write: unsafe extern "C" fn(*const u8, usize, *mut u8, usize) -> Filled,
     pub index_build: unsafe extern "C" fn(*const u8, usize, *mut u16, usize) -> Filled,
     pub index_lookup: AskedThrough,
     pub check: unsafe extern "C" fn(*const u8, usize) -> Checked,
@@ -54,6 +59,9 @@ pub struct Yardstick {
     pub vendor_write: fn(&[u8], &mut [u8]) -> Filled,
     pub relay_records: fn(&[u8], &mut [u8]) -> Relay,
     pub relay_write: fn(&[u8], &mut [u8]) -> Filled,
+    pub route_step: fn(&[u8], usize) -> RouteStep,
+    pub routes_ignored: fn(&[u8], Codes) -> Ignored,
+    pub routes_write: fn(&[u8], &mut [u8]) -> Filled,
     pub index_build: fn(&[u8], &mut [u16]) -> Filled,
     pub index_lookup: fn(&[u8], &[u16], Codes, u8) -> Answer,
     pub check: fn(&[u8]) -> Checked,
@@ -84,6 +92,12 @@ macro_rules! yardstick {
             vendor_write: |sheet, out| $($rules)::+::vendor::write(sheet, out).into(),
             relay_records: |bytes, sheet| $($rules)::+::relay::records(bytes, sheet).into(),
             relay_write: |sheet, out| $($rules)::+::relay::write(sheet, out).into(),
+            route_step: |data, at| {
+                let step = $($rules)::+::routes::step(data, at);
+                independent::boundary::RouteStep::of_step(step, at)
+            },
+            routes_ignored: |m, known| $($rules)::+::routes::ignored(m, known).into(),
+            routes_write: |given, out| $($rules)::+::routes::write(given, out).into(),
             index_build: |m, index| $($rules)::+::index::build(m, index).into(),
             index_lookup: |m, index, known, code| {
                 $($rules)::+::index::lookup(m, index, known, code).into()
@@ -119,6 +133,9 @@ pub fn own_exports() -> Subject {
         vendor_write: independent_vendor_write,
         relay_records: independent_relay_records,
         relay_write: independent_relay_write,
+        route_step: independent_route_step,
+        routes_ignored: independent_routes_ignored,
+        routes_write: independent_routes_write,
         index_build: independent_index_build,
         index_lookup: independent_index_lookup,
         check: independent_check_grouped,

@@ -1,14 +1,14 @@
 //! Data of options: good and bad lengths and values of every kind.
 
-use super::relay;
 use super::rng::Rng;
+use super::{relay, routes};
 use independent::rules::answers::Kind;
-use independent::rules::kinds::{kind_of, RELAY_INFORMATION};
+use independent::rules::kinds::{kind_of, CLASSLESS_ROUTES, RELAY_INFORMATION};
 
 /// The codes with a rule on their value, 52 apart.
 const JUDGED: &[u8] = &[
-    12, 14, 15, 17, 18, 19, 20, 22, 23, 25, 26, 27, 29, 30, 31, 33, 36, 37, 39, 40, 46, 53, 56,
-    57, 64, 66, 67,
+    12, 14, 15, 17, 18, 19, 20, 22, 23, 25, 26, 27, 29, 30, 31, 33, 36, 37, 39, 40, 46, 53, 56, 57,
+    64, 66, 67, 121, 121,
 ];
 
 const COMMON: &[u8] = &[1, 2, 3, 6, 12, 25, 26, 33, 51, 53, 54, 57, 61, 67, 68];
@@ -37,6 +37,7 @@ pub fn code(rng: &mut Rng, want: Want) -> u8 {
         let code = match (want, rng.below(4)) {
             (Want::Good | Want::BadLength | Want::Any, _) if rng.percent(6) => RELAY_INFORMATION,
             (Want::BadValue, _) => rng.pick(JUDGED),
+            _ if rng.percent(6) => CLASSLESS_ROUTES,
             (_, 0) => rng.pick(COMMON),
             (Want::BadLength, _) | (_, 1 | 2) => rng.between(1, 76) as u8,
             _ => rng.between(1, 254) as u8,
@@ -65,6 +66,10 @@ pub fn data(rng: &mut Rng, code: u8, want: Want, limit: usize, out: &mut Vec<u8>
         Want::BadLength if kind_of(code) == Some(Kind::Relay) => {
             relay::good(rng, limit, out);
             relay::spoil(rng, from, out);
+        }
+        Want::BadLength if kind_of(code) == Some(Kind::Routes) => {
+            routes::good(rng, limit, out);
+            routes::cut(rng, from, out);
         }
         Want::BadLength => bad_length(rng, limit, out),
         Want::BadValue => bad_value(rng, code, limit, out),
@@ -100,6 +105,7 @@ pub fn long(rng: &mut Rng, code: u8, length: usize, out: &mut Vec<u8>) {
             out[from + length - zeros..].fill(0);
         }
         Some(Kind::Relay) => relay::exact(rng, length, out),
+        Some(Kind::Routes) => routes::exact(rng, length, out),
         _ => rng.telling_bytes(length, out),
     }
     if rng.percent(10) && out.len() > from {
@@ -115,6 +121,9 @@ pub fn long(rng: &mut Rng, code: u8, length: usize, out: &mut Vec<u8>) {
 pub fn unbounded(rng: &mut Rng) -> u8 {
     if rng.percent(12) {
         return RELAY_INFORMATION;
+    }
+    if rng.percent(12) {
+        return CLASSLESS_ROUTES;
     }
     match rng.below(8) {
         0 => rng.pick(&[3, 6, 41, 65, 68, 76]),
@@ -176,6 +185,7 @@ fn good(rng: &mut Rng, code: u8, limit: usize, out: &mut Vec<u8>) {
             rng.telling_bytes(length, out);
         }
         Some(Kind::Relay) => relay::good(rng, limit, out),
+        Some(Kind::Routes) => routes::good(rng, limit, out),
         None => {
             let length = free_length(rng, 0, limit);
             rng.telling_bytes(length, out);
@@ -308,6 +318,11 @@ fn bad_value(rng: &mut Rng, code: u8, limit: usize, out: &mut Vec<u8>) {
             if out.len() > from {
                 spoil_text(rng, from, out);
             }
+        }
+        Some(Kind::Routes) => {
+            let from = out.len();
+            routes::good(rng, limit, out);
+            routes::widen(rng, from, out);
         }
         Some(Kind::AddressPairs) => {
             let from = out.len();

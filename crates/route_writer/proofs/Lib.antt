@@ -1,0 +1,5 @@
+pub mod Bits
+pub mod One
+pub mod Measuring
+pub mod Laying
+pub mod Outcomes

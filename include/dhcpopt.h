@@ -27,7 +27,10 @@
 
 /*
  * The version of this header: 100 * major + minor. The major number grows where a program must change (a call, a struct, the meaning
- * of an answer), the minor one where calls or names are added, or other data are right. The archives carry no version: take header and archives from one state.
+ * of an answer), the minor one where calls or names are added, or other data are right.
+ * An object file that is compiled with this header has the version as the value of a symbol, dhcpopt_version, and so has each object of
+ * the archives that `make` writes. The linker refuses two values: "multiple definition" or "duplicate symbol". That takes no byte of code
+ * or data (with clang 24 to 48 bytes of unwind table). The archives of `rt staticlib` have no such symbol, and are linked as they are.
  * 2.0: a lookup's answer says which field it comes from, and a broken option has a status of its own.
  * 3.0: a code may come in several pieces, in one field or over several (RFC 3396). A lookup answers for all of them together, and
  * dhcpopt_copy gives their bytes. docs/C-API.md, 'Versions', says what to do.
@@ -48,6 +51,20 @@
 #define DHCPOPT_VERSION_MAJOR 3
 #define DHCPOPT_VERSION_MINOR 10
 #define DHCPOPT_VERSION (100 * DHCPOPT_VERSION_MAJOR + DHCPOPT_VERSION_MINOR)
+
+/* With clang the symbol stands in an empty function that nobody calls: outside of one, clang's link-time optimization takes it as defined twice. */
+#if defined(__GNUC__) && !defined(DHCPOPT_NO_VERSION_SYMBOL)
+#define DHCPOPT_WORDS(words) #words
+#define DHCPOPT_SET_VERSION(value) \
+    __asm__(".globl dhcpopt_version\n\t.hidden dhcpopt_version\n\t.set dhcpopt_version, " DHCPOPT_WORDS(value))
+#ifdef __clang__
+__attribute__((naked, used)) static void dhcpopt_version_symbol(void) { DHCPOPT_SET_VERSION(DHCPOPT_VERSION); }
+#else
+DHCPOPT_SET_VERSION(DHCPOPT_VERSION);
+#endif
+#undef DHCPOPT_SET_VERSION
+#undef DHCPOPT_WORDS
+#endif
 
 #include <stddef.h>
 #include <stdint.h>

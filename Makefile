@@ -31,8 +31,8 @@ all: $(delivered)
 help:
 	@echo "dhcpopt $(version)"
 	@echo "make            archives, programs and manual pages, in target/dist; proved first, some ten minutes on two processors"
-	@echo "make test       the gate of proofs, .ci/run: some 31 minutes"
-	@echo "make check      what no proof reaches, tests/run: some 5 minutes"
+	@echo "make test       the gate of proofs, .ci/run: some 35 minutes"
+	@echo "make check      what no proof reaches, tests/run: some 10 minutes"
 	@echo "make install    into PREFIX (now $(PREFIX)), below DESTDIR; also BINDIR, INCLUDEDIR, LIBDIR, MANDIR, DOCDIR"
 	@echo "make uninstall  takes the same files away"
 	@echo "make deb        Debian packages, in target/deb"

@@ -21,7 +21,12 @@
 #ifndef DHCPOPT_H
 #define DHCPOPT_H
 
-#if !defined(__x86_64__) || defined(__ILP32__) || !defined(__linux__)
+#if defined(DHCPOPT_RUST) /* the calls come from dhcpopt-c, compiled for this machine: docs/C-API.md, 'Another machine' */
+#include <stdint.h>
+#if !defined(UINT8_MAX) || !defined(UINT64_MAX) || (SIZE_MAX != UINT32_MAX && SIZE_MAX != UINT64_MAX)
+#error "dhcpopt.h: dhcpopt-c is for machines with bytes of 8 bits, and a size_t of 32 or 64."
+#endif
+#elif !defined(__x86_64__) || defined(__ILP32__) || !defined(__linux__)
 #error "dhcpopt.h: the archives are compiled for x86-64 Linux alone. docs/C-API.md, 'Another machine', says what to do."
 #endif
 
@@ -53,7 +58,7 @@
 #define DHCPOPT_VERSION (100 * DHCPOPT_VERSION_MAJOR + DHCPOPT_VERSION_MINOR)
 
 /* With clang the symbol stands in an empty function that nobody calls: outside of one, clang's link-time optimization takes it as defined twice. */
-#if defined(__GNUC__) && !defined(DHCPOPT_NO_VERSION_SYMBOL)
+#if defined(__GNUC__) && !defined(DHCPOPT_NO_VERSION_SYMBOL) && !defined(DHCPOPT_RUST)
 #define DHCPOPT_WORDS(words) #words
 #define DHCPOPT_SET_VERSION(value) \
     __asm__(".globl dhcpopt_version\n\t.hidden dhcpopt_version\n\t.set dhcpopt_version, " DHCPOPT_WORDS(value))
@@ -1023,6 +1028,9 @@ DHCPOPT_CALL size_t dhcpopt_captures_report(dhcpopt_captures p, const uint64_t v
 #define DHCPOPT_MEMBER(type, member, at, bytes) \
     DHCPOPT_ASSERT(offsetof(type, member) == (at) && DHCPOPT_SIZE(type, member) == (bytes))
 
+#if SIZE_MAX == UINT32_MAX /* DHCPOPT_RUST alone: the members are the same, and Rust lays them out as this machine's C does */
+DHCPOPT_ASSERT(sizeof(void *) == 4 && sizeof(size_t) == 4);
+#else
 DHCPOPT_ASSERT(sizeof(void *) == 8 && sizeof(size_t) == 8);
 DHCPOPT_ASSERT(sizeof(dhcpopt_answer) == 72);
 DHCPOPT_MEMBER(dhcpopt_answer, status, 0, 4);
@@ -1096,6 +1104,7 @@ DHCPOPT_MEMBER(dhcpopt_captures, leases, 36, 4);
 DHCPOPT_MEMBER(dhcpopt_captures, smallest, 40, 4);
 DHCPOPT_MEMBER(dhcpopt_captures, largest, 44, 4);
 DHCPOPT_MEMBER(dhcpopt_captures, high, 48, 1);
+#endif
 
 #undef DHCPOPT_MEMBER
 #undef DHCPOPT_SIZE

@@ -1,8 +1,10 @@
 #!/usr/bin/env python3
 """The program report_captures against the report from the words (check.py): each cause of 24, an empty file, a message of 65,535 bytes, 1,000,000 and 1,000,001
-messages, random files, and input that comes by a pipe in pieces of 1, 7 and 65,536 bytes, and of any size. The program is target/bin/report_captures."""
+messages, random files, and input that comes by a pipe in pieces of 1, 7 and 65,536 bytes, and of any size; progress on standard error where that is a terminal,
+and nowhere else. The program is target/bin/report_captures."""
 
 import os
+import pty
 import random
 import subprocess
 import sys
@@ -36,6 +38,27 @@ def printed(file, sizes=None):
     return out.decode()
 
 
+def progress():
+    """Progress is told on a terminal, whose line is empty at the end; a file or a pipe gets none. The report is the same."""
+    file = GOOD * 3000
+    ours, theirs = pty.openpty()
+    shown = subprocess.run([PROGRAM], input=file, stdout=subprocess.PIPE, stderr=theirs, check=True).stdout.decode()
+    os.close(theirs)
+    told = b""
+    try:
+        while more := os.read(ours, 65536):
+            told += more
+    except OSError:  # the terminal is closed
+        pass
+    os.close(ours)
+    silent = subprocess.run([PROGRAM], input=file, capture_output=True, check=True)
+    lines = [line for line in told.split(b"\r") if line.strip()]
+    if shown != report(file) or silent.stdout.decode() != shown or silent.stderr != b"":
+        sys.exit("captures: the report changes where progress is told, or a pipe is told of it")
+    if lines[-1] != b"%d bytes read" % len(file) or not told.endswith(b"\r") or told.split(b"\r")[-2].strip():
+        sys.exit(f"captures: progress is {told!r}")
+
+
 def cases():
     stored = (OUT / "stdin").read_bytes()
     for sizes in (None, [1], [7], [65536], [1, 7, 997]):
@@ -66,4 +89,5 @@ if __name__ == "__main__":
         if wanted != got:
             sys.exit(f"captures: {name}: expected\n{wanted}printed\n{got}")
         count += 1
+    progress()
     print(f"captures: {count} files are reported as the second reader does")

@@ -24,15 +24,28 @@ struct Text {
     total: u64,
 }
 
+// How far the file was read, on standard error, where that is a terminal; at the end the line is empty again.
+fn tell(shown: bool, size: usize, total: u64) {
+    if !shown {
+        return;
+    }
+    if size == 0 {
+        io::write_all(2, b"\r                                \r");
+        return;
+    }
+    io::write_all(2, b"\r");
+    io::print_decimal(2, total);
+    io::write_all(2, b" bytes read");
+}
+
 // Fills the reading buffer once; of size 0 at the file's end. Here alone is read, and here it is counted, so that what was read cannot be lost unseen.
-fn fill_once(part: &mut [u8], total: u64) -> Filling
+fn fill_once(part: &mut [u8], total: u64, shown: bool) -> Filling
     ensures { λ r. ⌜ (r .size ≤ length (now (part .exit))) × (r .total ≡ (total + r .size) % 2 ^ 64) ⌝ }
 {
     let size = io::count(libc::read(0, part), part);
-    Filling {
-        size,
-        total: std::num::wrapping_add_u64(total, size as u64),
-    }
+    let sum = std::num::wrapping_add_u64(total, size as u64);
+    tell(shown, size, sum);
+    Filling { size, total: sum }
 }
 
 // Takes what a filling read: the bytes at the front of the buffer.
@@ -57,6 +70,7 @@ fn fill_all(
     verdicts: &mut [u64; 8],
     held: &mut [u64; 256],
     bytes: &mut [u64; 256],
+    shown: bool,
 ) -> Taken
     ensures { λ r. ⌜ Filled (now (kept .entry)) (now (verdicts .entry)) (now (held .entry)) (now (bytes .entry)) (r .total) (r .progress) (now (kept .exit)) (now (verdicts .exit)) (now (held .exit)) (now (bytes .exit)) ⌝ }
 {
@@ -64,7 +78,7 @@ fn fill_all(
     let mut total: u64 = 0;
     let mut left: u64 = 18446744073709551615;
     while left != 0 {
-        let f = fill_once(part, total);
+        let f = fill_once(part, total, shown);
         total = f.total;
         if f.size == 0 {
             return Taken { progress: p, total };
@@ -76,14 +90,14 @@ fn fill_all(
 }
 
 // Puts the report of the file at the front of the text. The reading buffer has 64 KiB.
-fn reported(part: &mut [u8], text: &mut [u8; 16384]) -> Text
+fn reported(part: &mut [u8], text: &mut [u8; 16384], shown: bool) -> Text
     ensures { λ r. ⌜ Printed (r .total) (now (text .entry)) (r .size) (now (text .exit)) ⌝ }
 {
     let mut kept = [0u8; 1472];
     let mut verdicts = [0u64; 8];
     let mut held = [0u64; 256];
     let mut bytes = [0u64; 256];
-    let t = fill_all(part, &mut kept, &mut verdicts, &mut held, &mut bytes);
+    let t = fill_all(part, &mut kept, &mut verdicts, &mut held, &mut bytes, shown);
     let total = t.total;
     let size = report::report(t.progress, &verdicts, &held, &bytes, text);
     Text { size, total }
@@ -92,6 +106,6 @@ fn reported(part: &mut [u8], text: &mut [u8; 16384]) -> Text
 fn main() {
     let mut part = io::large_buffer();
     let mut text = [0u8; 16384];
-    let r = reported(&mut part, &mut text);
+    let r = reported(&mut part, &mut text, libc::isatty(2) == 1);
     io::write_all(1, &text[..r.size]);
 }

@@ -10,11 +10,11 @@ use Rattle.report_captures.proofs.fill_all.Statement.{statement}
 use Rattle.report_captures.proofs.fill_all.Tie as tie
 
 abbrev Inv-loop : tie.InvT-loop
-Inv-loop part₀ kept₀ verdicts₀ held₀ bytes₀ p₀ total₀ left₀ part kept verdicts held bytes p total left =
+Inv-loop part₀ kept₀ verdicts₀ held₀ bytes₀ shown p₀ total₀ left₀ part kept verdicts held bytes p total left =
     (length part ≡ length part₀) × Filled kept₀ verdicts₀ held₀ bytes₀ total p kept verdicts held bytes
 
 abbrev μ-loop : tie.MeasureT-loop
-μ-loop part₀ kept₀ verdicts₀ held₀ bytes₀ p₀ total₀ left₀ part kept verdicts held bytes p total left = left
+μ-loop part₀ kept₀ verdicts₀ held₀ bytes₀ shown p₀ total₀ left₀ part kept verdicts held bytes p total left = left
 
 begin-requires : tie.Need-begin-requires Inv-loop μ-loop
 begin-requires c κs = search needs

@@ -12,6 +12,9 @@ large-buffer-requires c κs = search needs
 slice-aggregate-reported : tie.Need-slice-aggregate-reported
 slice-aggregate-reported c = search needs
 
+isatty-requires : tie.Need-isatty-requires
+isatty-requires c κs = search needs
+
 reported-requires : tie.Need-reported-requires
 reported-requires c κs = search needs
 
@@ -33,6 +36,7 @@ main-spec =
     (tie.spec
     large-buffer-requires
     slice-aggregate-reported
+    isatty-requires
     reported-requires
     array-share-prefix-text
     slice-aggregate-write-all

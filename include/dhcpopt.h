@@ -1,5 +1,5 @@
 /*
- * The options of one DHCPv4 message (RFC 2131, RFC 2132, RFC 3396, RFC 3442): a reader and a writer, for C11 and C++17 on x86-64 Linux.
+ * The options of one DHCPv4 message (RFC 2131, RFC 2132, RFC 3046, RFC 3396, RFC 3442): a reader and a writer, for C11 and C++17 on x86-64 Linux.
  *
  * libdhcpopt_extra.a has dhcpopt_list, dhcpopt_options_end and dhcpopt_index_copy;
  * libdhcpopt_writer.a has dhcpopt_write, dhcpopt_vendor_write, dhcpopt_relay_write and the calls on grouped sheets (dhcpopt_check_grouped, dhcpopt_choose,

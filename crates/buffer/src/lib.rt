@@ -1,4 +1,6 @@
 // Bytes copied from one buffer to another.
+#![tactic(auto)]
+
 ghost use Rattle.std.specs.Prelude.{◌≡◌, ◌+◌, ◌≤◌, ◌<◌, min, length};
 ghost use Rattle.buffer.specs.Copy.{whole, copied};
 

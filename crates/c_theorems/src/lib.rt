@@ -4,6 +4,8 @@
 // A new call gets here (1) its demand 1, in specs/Refusals: `RefusedOnlyBy` with its rows where it fills a lent buffer, else a record as those there; (2) what demand 2
 // says of what it gives, in specs/Answers or specs/Sheets; (3) both in `proved`, whose contract names every statement of specs: one that is not proved is refused there;
 // and a function that makes the call, with them as its contract.
+#![tactic(auto)]
+
 ghost use Rattle.c_theorems.specs.Refusals.{LookupRefusedForC, IndexLookupRefusedForC, DataRefusedForC, TextRefusedForC, PresentRefusedForC, RecordsRefusedForC, CopyRefusedForC, VendorRecordsRefusedForC, BuildRefusedForC};
 ghost use Rattle.c_theorems.specs.Refusals.{WriteRefusedForC, NoRoomForC, VendorWriteRefusedForC, CheckRefusedForC, ChooseRefusedForC, GroupRefusedForC, UngroupRefusedForC, ProfileRefusedForC};
 ghost use Rattle.c_theorems.specs.Answers.{LookupForC, AbsentForC, IndexLookupForC, DataForC, CopyForC, PresentForC, AddressesForC, ProfileForC, SameNamedForC};

@@ -1,4 +1,6 @@
 // Reads files of captures from standard input, lends each in parts to the calls that C links, and prints what they report (tests/captures/README.md).
+#![tactic(auto)]
+
 ghost use Rattle.std.specs.Prelude.{◌<◌};
 
 use console::{Case, one, word};
@@ -6,7 +8,7 @@ use dhcpopt_captures::PlainProgress;
 use message::part;
 
 // A file while it is taken: whether there was a step, where reading is, and how many bytes a part has.
-#[derive(Drop)]
+#[derive(Clone, Copy)]
 struct Taken {
     there: bool,
     progress: PlainProgress,

@@ -1,4 +1,6 @@
 // A file of captures, taken part by part (document 02, request 11). The caller lends the numbers, and a buffer for one message.
+#![tactic(auto)]
+
 ghost use Rattle.std.specs.Prelude.{◌≡◌, ℕ, ◌+◌, ◌<◌, ◌≤◌, min, ◌⊎◌, List, [], ◌∷◌, length, take, if◌then◌else◌, nat_eq, nat_lt};
 ghost use Rattle.options.specs.Captures.{most_messages};
 ghost use Rattle.tally.specs.Noted.{lease_of, lease_in};
@@ -9,7 +11,7 @@ use tally::{Lease, Time};
 // Where reading is. began: the place of the record's first byte in the file; stage: 0 before a record or in its message, 1 after its tag, 2 after its high length
 // byte, 3 where a record was refused; high: that byte; size: the length of the message that is read, and read: how many of its bytes were. Then the messages
 // that were seen, and their lease times.
-#[derive(Drop)]
+#[derive(Clone, Copy)]
 pub struct Progress {
     pub began: u64,
     pub stage: u32,

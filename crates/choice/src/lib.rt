@@ -1,6 +1,8 @@
 // The choice for a class from a grouped file (document 02, request 08): the records of each group reached, in written order, as a sheet.
 // One walk checks the file and lays the records into a local sheet: so their size is known, and every fault, before a lent byte is touched.
 // A group's body calls item, item calls group, group calls body: "A group may hold further groups", and the depth left falls.
+#![tactic(auto)]
+
 ghost use Rattle.std.specs.Prelude.{◌≡◌, ◌+◌, ◌≤◌, length, drop};
 ghost use Rattle.options.specs.Grouped.{none, group_of, body, reached};
 ghost use Rattle.options.specs.Grouped as grouped;
@@ -13,14 +15,14 @@ use groups::Checked;
 use sheet::Step;
 
 // Where the records chosen of a group end in the sheet, or its first fault.
-#[derive(Drop)]
+#[derive(Clone, Copy)]
 pub enum Outcome {
     Laid(usize),
     Refused { number: u32, place: usize },
 }
 
 // What a place in a group's body has: nothing more; an item, the place behind it, and where the records end then; the first fault of one.
-#[derive(Drop)]
+#[derive(Clone, Copy)]
 pub enum Picked {
     End,
     Next { at: usize, end: usize },

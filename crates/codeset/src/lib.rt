@@ -1,4 +1,6 @@
 // A set of option codes as four words: code c stands at bit c mod 64 of word c div 64 (document 01, What is asked of a message).
+#![tactic(auto)]
+
 ghost use Rattle.std.specs.Prelude.{◌≡◌, ◌/◌, ◌<◌, length, get_or};
 ghost use Rattle.options.specs.CodeSet.{marked, with_mark, count_of, lowest_of};
 

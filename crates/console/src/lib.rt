@@ -1,4 +1,6 @@
 // Cases on standard input, bytes and numbers on standard output, for the programs that run cases.
+#![tactic(auto)]
+
 ghost use Rattle.std.specs.Prelude.{◌≡◌, ◌+◌, ◌*◌, ◌<◌, ◌≤◌, length};
 ghost use Rattle.console.specs.Sum.{sum_of};
 ghost use Rattle.console.specs.Heads.{head_of};
@@ -98,7 +100,7 @@ pub fn fill(buf: &mut [u8], first: u8)
 }
 
 // What the 8 bytes say with which a case begins: the call asked for, how many bytes are lent, the first of them, and the lengths of a name and of what is handed over, which follow.
-#[derive(Drop)]
+#[derive(Clone, Copy)]
 pub struct Head {
     pub call: u8,
     pub room: usize,
@@ -108,7 +110,7 @@ pub struct Head {
 }
 
 // A case as it was read; not there at the end of the input, or where a length is greater than what the program has room for.
-#[derive(Drop)]
+#[derive(Clone, Copy)]
 pub struct Case {
     pub there: bool,
     pub call: u8,

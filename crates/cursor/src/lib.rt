@@ -1,4 +1,6 @@
 // The options of an accepted message one after another, over all its active fields in reading order (document 01, The message and its fields).
+#![tactic(auto)]
+
 ghost use Rattle.std.specs.Prelude.{◌≡◌};
 ghost use Rattle.message.specs.Fields.{field_of};
 ghost use Rattle.message.specs.Active.{field_from, later_fields};
@@ -8,14 +10,14 @@ use message::Field;
 use wire::Spot;
 
 // Where reading goes on: an offset in a field, the fields after it being still to read.
-#[derive(Drop)]
+#[derive(Clone, Copy)]
 pub struct Position {
     pub field: Field,
     pub offset: usize,
 }
 
 // The next option: its field, the offset of its code byte there, its code and the length of its data; or none is left.
-#[derive(Drop)]
+#[derive(Clone, Copy)]
 pub enum Step {
     Item {
         field: Field,

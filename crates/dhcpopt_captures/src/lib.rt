@@ -1,4 +1,6 @@
 // The tally of captures for C (document 02, request 11): the caller lends the numbers and the buffers, which are arrays; how far the file was read is a struct by value.
+#![tactic(auto)]
+
 ghost use Rattle.std.specs.Prelude.{◌≡◌, ◌≤◌, length};
 ghost use Rattle.report.specs.Printed.{Reports};
 ghost use Rattle.dhcpopt_captures.specs.Plain.{progress_of_value, plain_of, BeginsWith, FeedsPlain};
@@ -9,7 +11,7 @@ use tally::Lease;
 
 // captures::Progress with its lease times. leases: 1 where there are any, else 0.
 #[repr(C)]
-#[derive(Drop)]
+#[derive(Clone, Copy)]
 pub struct PlainProgress {
     pub began: u64,
     pub messages: u64,

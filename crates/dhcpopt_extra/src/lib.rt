@@ -1,4 +1,6 @@
 // Further calls for C (docs/RULES.md, L4, Q19 and I8): the listing, where END stands, and the copy through an index. A library of its own, so that those of the reader and of an index are compiled as before.
+#![tactic(auto)]
+
 ghost use Rattle.std.specs.Prelude.{◌≡◌};
 ghost use Rattle.options.specs.Trim.{options_end_value};
 ghost use Rattle.options.specs.Listed.{listed};

@@ -1,6 +1,8 @@
 // An index for C (document 02, request 07): 16-bit numbers are a pointer and their count. A library of its own, so that the plain lookup and this one are each
 // compiled in one piece. The answers are those of dhcpopt_reader; here they are put into C's struct at once, without an enum between, since a lookup through
 // an index does little else.
+#![tactic(auto)]
+
 ghost use Rattle.std.specs.Prelude.{◌≡◌, cond, [], ◌∷◌, ◌≤◌, ◌%◌, eqb, pos, length};
 ghost use Rattle.options.specs.Kinds as kindsOf;
 ghost use Rattle.options.specs.Kinds.{kinds};
@@ -144,7 +146,7 @@ fn content(row: u8, d: &[u8]) -> PlainContent
 }
 
 // A field that holds a place: where it begins and where it ends. Where no field holds the place the end is 0.
-#[derive(Drop)]
+#[derive(Clone, Copy)]
 struct Span {
     field: Field,
     base: usize,

@@ -1,4 +1,6 @@
 // The meter's reply profile for C (document 02, request 13): whether a reply is to be trusted, and which rules it breaks.
+#![tactic(auto)]
+
 ghost use Rattle.std.specs.Prelude.{◌≡◌, cond, not, ◌+◌, ◌≤◌, eqb, length, get_or};
 ghost use Rattle.options.specs.Profile.{profile};
 ghost use Rattle.options.specs.IndexClaims.{BuiltFrom};
@@ -10,7 +12,7 @@ use filled::Given;
 
 // broken: the rules that are broken, bits 0 to 7; 0 says yes. Number and place of a refusal (0: none); then nothing is said of the rules.
 #[repr(C)]
-#[derive(Drop)]
+#[derive(Clone, Copy)]
 pub struct PlainProfile {
     pub broken: u32,
     pub refusal: u32,

@@ -1,4 +1,6 @@
 // The reader for C (document 01: "calls these on plain numbers and byte slices"): a slice is a pointer and a length, the known set four words.
+#![tactic(auto)]
+
 ghost use Rattle.std.specs.Prelude.{◌≡◌, [], ◌∷◌, cond, ◌-◌, ◌≤◌, eqb, pos};
 ghost use Rattle.options.specs.Kinds.{kinds};
 ghost use Rattle.options.specs.CodeSet.{marked};
@@ -21,7 +23,7 @@ use message::Field;
 // status: 0 absent, 1 unknown, 2 refused, 3 a number, 4 a part, 5 broken. kind: 1 to 11 in the order of document 01's table, 12 relay information, 13 classless routes. field: 1 options, 2 file, 3 sname.
 // several: 1 where the option comes in two or more pieces, which then have `whole` bytes together; else 0 and 0.
 #[repr(C)]
-#[derive(Drop)]
+#[derive(Clone, Copy)]
 pub struct PlainAnswer {
     pub status: u32,
     pub kind: u32,
@@ -37,7 +39,7 @@ pub struct PlainAnswer {
 }
 
 // What an answer says of an option, wherever it stands.
-#[derive(Drop)]
+#[derive(Clone, Copy)]
 pub struct PlainContent {
     pub status: u32,
     pub kind: u32,
@@ -48,7 +50,7 @@ pub struct PlainContent {
 
 // A part of the message, 0 and 0 when it is empty.
 #[repr(C)]
-#[derive(Drop)]
+#[derive(Clone, Copy)]
 pub struct PlainExtent {
     pub start: usize,
     pub length: usize,
@@ -56,7 +58,7 @@ pub struct PlainExtent {
 
 // given: 1 where there is an address, and next is the place after it; else 0.
 #[repr(C)]
-#[derive(Drop)]
+#[derive(Clone, Copy)]
 pub struct PlainAddress {
     pub given: u32,
     pub address: u32,
@@ -65,7 +67,7 @@ pub struct PlainAddress {
 
 // start: 0 where the id is absent; data never start before 2.
 #[repr(C)]
-#[derive(Drop)]
+#[derive(Clone, Copy)]
 pub struct PlainId {
     pub start: usize,
     pub length: usize,
@@ -73,7 +75,7 @@ pub struct PlainId {
 
 // refusal: 0 where size bytes of records were given, and the ids are named; else its number, with its place, and no id.
 #[repr(C)]
-#[derive(Drop)]
+#[derive(Clone, Copy)]
 pub struct PlainRelay {
     pub refusal: u32,
     pub size: usize,
@@ -84,7 +86,7 @@ pub struct PlainRelay {
 
 // refusal: 0 where the message is accepted.
 #[repr(C)]
-#[derive(Drop)]
+#[derive(Clone, Copy)]
 pub struct PlainCodes {
     pub words: [u64; 4],
     pub count: u32,

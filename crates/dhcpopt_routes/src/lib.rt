@@ -1,5 +1,7 @@
 // Classless routes for C (document 02, request 14; RFC 3442): the walk over the data of option 121, whether 3 and 33 are ignored, and the writer of such data. A library of
 // its own, so that no other call is compiled otherwise.
+#![tactic(auto)]
+
 ghost use Rattle.std.specs.Prelude.{◌≡◌, [], ◌∷◌};
 ghost use Rattle.options.specs.CodeSet.{marked};
 ghost use Rattle.options.specs.Routes.{route_step, ignored, write_routes};
@@ -10,7 +12,7 @@ use filled::PlainFilled;
 
 // given: 1 where there is a route, and next is the place behind it; else 0, the numbers are 0, and next is the place asked for.
 #[repr(C)]
-#[derive(Drop)]
+#[derive(Clone, Copy)]
 pub struct PlainRoute {
     pub given: u32,
     pub destination: u32,
@@ -21,7 +23,7 @@ pub struct PlainRoute {
 
 // refusal: 0 where the call says whether 3 and 33 are ignored, 1 or 0; else its number, with its place.
 #[repr(C)]
-#[derive(Drop)]
+#[derive(Clone, Copy)]
 pub struct PlainIgnored {
     pub refusal: u32,
     pub ignored: u32,

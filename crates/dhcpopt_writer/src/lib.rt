@@ -1,4 +1,6 @@
 // The writer and the calls on grouped sheets for C (document 01: "calls these on plain numbers and byte slices"): a library of its own, so that who only reads links no byte of it.
+#![tactic(auto)]
+
 ghost use Rattle.std.specs.Prelude.{◌≡◌};
 ghost use Rattle.options.specs.Kinds.{kinds};
 ghost use Rattle.options.specs.Writing as options;
@@ -16,7 +18,7 @@ use plan::Choice;
 
 // refusal: 0 where the sheet was written, and plan is the plan used; else its number, with its place, and the buffer is as it was.
 #[repr(C)]
-#[derive(Drop)]
+#[derive(Clone, Copy)]
 pub struct PlainWrote {
     pub refusal: u32,
     pub plan: u32,

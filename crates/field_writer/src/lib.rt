@@ -1,4 +1,6 @@
 // The room left in a field: one option is written at its start, or END and zeros.
+#![tactic(auto)]
+
 ghost use Rattle.std.specs.Prelude.{◌≡◌, length, replicate};
 ghost use Rattle.field_writer.specs.Room.{with_option, end_and_zeros};
 

@@ -1,11 +1,13 @@
 // What a call gives that fills a lent buffer (document 02, request 02: "it answers how many bytes it gave").
+#![tactic(auto)]
+
 ghost use Rattle.std.specs.Prelude.{◌≡◌};
 ghost use Rattle.options.specs.Answers.{filled_with};
 ghost use Rattle.filled.specs.Fill.{given_of, Fills, FillsByCase};
 ghost use Rattle.filled.specs.Plain.{plain_filled, FilledByCase};
 
 // How many bytes of the buffer were given, or a refusal.
-#[derive(Drop)]
+#[derive(Clone, Copy)]
 pub enum Given {
     Bytes(usize),
     Refused { number: u32, place: usize },
@@ -13,7 +15,7 @@ pub enum Given {
 
 // The same for C. refusal: 0 where size bytes were given; else its number, with its place, and the buffer is as it was.
 #[repr(C)]
-#[derive(Drop)]
+#[derive(Clone, Copy)]
 pub struct PlainFilled {
     pub refusal: u32,
     pub size: usize,

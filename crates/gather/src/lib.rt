@@ -1,4 +1,6 @@
 // The pieces of a code, end to end (document 02, request 02).
+#![tactic(auto)]
+
 ghost use Rattle.std.specs.Prelude.{cond, [], take, drop};
 ghost use Rattle.text.specs.Text.{Puts};
 ghost use Rattle.gather.specs.Joined.{joined_from};

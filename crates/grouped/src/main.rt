@@ -1,4 +1,6 @@
 // Reads grouped files and sheets from standard input, makes the call asked for on each, and prints what it gave (tests/grouped/README.md).
+#![tactic(auto)]
+
 use console::{one, word};
 use filled::PlainFilled;
 use message::part;

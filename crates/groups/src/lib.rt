@@ -1,5 +1,7 @@
 // The check of a grouped file (document 02, request 08): its first faulty item, in groups that nobody enters too.
 // A group's body calls item, item calls group, group calls body: "A group may hold further groups", and the depth left falls.
+#![tactic(auto)]
+
 ghost use Rattle.std.specs.Prelude.{◌≡◌, ◌+◌, drop};
 ghost use Rattle.options.specs.SheetWalk.{records_from};
 ghost use Rattle.options.specs.Grouped.{none, group_of, body, fault_of};
@@ -10,7 +12,7 @@ ghost use Rattle.groups.specs.Parts.{members_at_value, outermost_size, item_give
 use sheet::Step;
 
 // Number and place of a refusal, or none.
-#[derive(Drop)]
+#[derive(Clone, Copy)]
 pub enum Checked {
     Passed,
     Refused { number: u32, place: usize },
@@ -18,7 +20,7 @@ pub enum Checked {
 
 // The same for C. refusal: 0 where there is no fault; else its number, with its place.
 #[repr(C)]
-#[derive(Drop)]
+#[derive(Clone, Copy)]
 pub struct PlainChecked {
     pub refusal: u32,
     pub place: usize,
@@ -30,7 +32,7 @@ pub fn proved()
 {}
 
 // What a place in a group's body has: nothing more; an item without a fault, and the place behind it; the first fault of one.
-#[derive(Drop)]
+#[derive(Clone, Copy)]
 pub enum Item {
     End,
     Next(usize),

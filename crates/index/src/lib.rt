@@ -1,4 +1,6 @@
 // An index of a message: where each code stands (document 02, request 07). What is answered of a code is not this crate's.
+#![tactic(auto)]
+
 ghost use Rattle.std.specs.Prelude.{◌≡◌, false, cond, [], ◌≤◌, ◌<◌, length, replicate};
 ghost use Rattle.options.specs.Message.{bytes};
 ghost use Rattle.options.specs.Reading.{accepted, is_options_value, all_fields};
@@ -12,7 +14,7 @@ use filled::Given;
 use message::Field;
 
 // What the walk of a field comes to: the offset where it goes on, or 0 where it ends; the value of option 52 (0: not met); number and place of a refusal (0: none).
-#[derive(Drop)]
+#[derive(Clone, Copy)]
 pub struct Seen {
     pub at: usize,
     pub over: u32,

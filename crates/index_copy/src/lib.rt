@@ -1,4 +1,6 @@
 // The copy of a code through an index (docs/RULES.md, I8).
+#![tactic(auto)]
+
 ghost use Rattle.std.specs.Prelude.{◌≡◌, ◌≤◌, length};
 ghost use Rattle.options.specs.Index.{used_entry};
 ghost use Rattle.options.specs.IndexCopy.{entry_copy, copy_by};

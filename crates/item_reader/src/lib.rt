@@ -1,5 +1,7 @@
 // Inside an option: the items of vendor information, option 43 (document 02, request 05; RFC 2132, 8.4), and the sub-options of relay information,
 // option 82 (request 09; RFC 3046), read as records.
+#![tactic(auto)]
+
 ghost use Rattle.std.specs.Prelude.{◌≡◌, ◌≤◌, length};
 ghost use Rattle.options.specs.SubOptions.{sub_options};
 ghost use Rattle.options.specs.Vendor.{items_in, vendor_records_value};
@@ -81,7 +83,7 @@ pub fn vendor_records(f: &[u8], out: &mut [u8]) -> Given
 }
 
 // Start and length of the data of a sub-option; 0 and 0 where there is none: data never start before 2.
-#[derive(Drop)]
+#[derive(Clone, Copy)]
 pub struct Id {
     pub start: usize,
     pub length: usize,
@@ -93,14 +95,14 @@ fn id_of(start: usize, length: usize) -> Id
     Id { start, length }
 }
 
-#[derive(Drop)]
+#[derive(Clone, Copy)]
 pub struct Ids {
     pub circuit: Id,
     pub remote: Id,
 }
 
 // What the walk tells: whether a sub-option runs past, and where; else the bytes of the records, and the two ids.
-#[derive(Drop)]
+#[derive(Clone, Copy)]
 pub struct Walked {
     pub past: bool,
     pub place: usize,
@@ -191,7 +193,7 @@ fn walk(f: &[u8]) -> Walked
 }
 
 // What the reader answers: how many bytes of records it gave, and the two ids; or a refusal, which names none.
-#[derive(Drop)]
+#[derive(Clone, Copy)]
 pub struct Read {
     pub given: Given,
     pub circuit: Id,

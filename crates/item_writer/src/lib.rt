@@ -1,5 +1,7 @@
 // Inside an option: the items of vendor information, option 43 (document 02, request 05; RFC 2132, 8.4), and the sub-options of relay information,
 // option 82 (request 09; RFC 3046), written from records.
+#![tactic(auto)]
+
 ghost use Rattle.std.specs.Prelude.{◌≡◌, ◌≤◌, length, ltb};
 ghost use Rattle.options.specs.Reading.{either};
 ghost use Rattle.options.specs.SheetWalk.{records_left, Whole};
@@ -14,7 +16,7 @@ use filled::Given;
 use sheet::Step;
 
 // Number and place of the first faulty record, or 0 and 0, and then the bytes that the items take.
-#[derive(Drop)]
+#[derive(Clone, Copy)]
 pub struct Judged {
     pub number: u32,
     pub place: usize,

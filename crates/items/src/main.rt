@@ -1,4 +1,6 @@
 // Reads vendor information and relay information, and sheets of their items, from standard input, and prints what the calls that C links give of each (tests/items/README.md).
+#![tactic(auto)]
+
 use console::{one, word};
 use filled::PlainFilled;
 use message::part;

@@ -1,4 +1,6 @@
 // The kinds of options (document 01, The kinds, by code): the kind of a code, the rules of length and of value.
+#![tactic(auto)]
+
 ghost use Rattle.std.specs.Prelude.{◌≡◌, [], ◌∷◌, ◌<◌, ◌≤◌, ◌%◌};
 ghost use Rattle.options.specs.Reading.{among};
 ghost use Rattle.options.specs.Kinds.{kind_of, multiples, is_length, addresses_of, numbers_of, rising, no_zero_first, trimmed, from_to_value, text_fits_value, or_nine_value};

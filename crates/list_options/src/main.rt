@@ -1,4 +1,6 @@
 // Writes the listing of the message on standard input to standard output (document 01, Bench table: the listing program).
+#![tactic(auto)]
+
 ghost use Rattle.std.specs.Prelude.{◌≡◌, ◌++◌, length, take, drop};
 ghost use Rattle.options.specs.Answers.{listing};
 

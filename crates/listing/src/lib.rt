@@ -1,4 +1,6 @@
 // The listing of a message as text (document 01, Bench table: the listing program).
+#![tactic(auto)]
+
 ghost use Rattle.std.specs.Prelude.{◌≡◌, ◌++◌, length, drop};
 ghost use Rattle.options.specs.Answers.{field_name, accepted_line, refused_line, lines_of, listing};
 ghost use Rattle.message.specs.Fields.{field_of};

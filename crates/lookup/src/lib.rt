@@ -1,4 +1,6 @@
 // Look up a code, its data and its text, and copy its bytes (document 01, What is asked of a message; document 02, requests 01 and 02).
+#![tactic(auto)]
+
 ghost use Rattle.std.specs.Prelude.{◌≡◌, true, false, ◌++◌, ◌≤◌, ◌+◌, length, get_or};
 ghost use Rattle.message.specs.Scan.{scan_of};
 ghost use Rattle.message.specs.Part.{part_at};
@@ -19,7 +21,7 @@ use message::{Field, Scanned};
 
 // What is answered of an option, wherever it stands (document 01, What is asked of a message): unknown, with the length of its data; broken, with 8 or 9; or
 // its kind, with the number or the length.
-#[derive(Drop)]
+#[derive(Clone, Copy)]
 pub enum Content {
     Unknown(usize),
     Broken(u32),
@@ -39,7 +41,7 @@ pub enum Content {
 }
 
 // Whether an option comes in one piece, or in several, which then have so many bytes together (document 02, request 02).
-#[derive(Drop)]
+#[derive(Clone, Copy)]
 pub enum Wholeness {
     InOne,
     InPieces(usize),
@@ -47,7 +49,7 @@ pub enum Wholeness {
 
 // Where an option stands (document 02, requests 01 and 02): the field that holds its code byte, that byte's offset in it, and whether that is the first of
 // several pieces.
-#[derive(Drop)]
+#[derive(Clone, Copy)]
 pub struct Origin {
     pub field: Field,
     pub offset: usize,
@@ -55,7 +57,7 @@ pub struct Origin {
 }
 
 // The answer to a lookup. Every answer but absent says where the option stands (document 02, request 01).
-#[derive(Drop)]
+#[derive(Clone, Copy)]
 pub enum Answer {
     Absent,
     Refused { number: u32, place: usize },
@@ -63,7 +65,7 @@ pub enum Answer {
 }
 
 // A part of the message; 0 and 0 when it is empty.
-#[derive(Drop)]
+#[derive(Clone, Copy)]
 pub struct Extent {
     pub start: usize,
     pub len: usize,

@@ -1,4 +1,6 @@
 // One walk over a whole message (document 01, The message and its fields): the length and the cookie, then options, file and sname.
+#![tactic(auto)]
+
 ghost use Rattle.std.specs.Prelude.{◌≡◌, Bool, true, cond, not, ◌+◌, ◌-◌, ◌<◌, ◌≤◌, ◌^◌, eqb, length, take, drop};
 ghost use Rattle.options.specs.Message.{start, bytes, cookie};
 ghost use Rattle.options.specs.Reading.{same, parse, right52, file_in, sname_in};
@@ -12,7 +14,7 @@ ghost use Rattle.message.specs.Items.{measure_of};
 ghost use Rattle.message.specs.Walk.{tallied, set_after, past_stop, past_set, Passes, over_stop_value, over_after_value, kept_after_value, stopped_at, ended_at, out_end, Lasts, last_of, Few, Walks};
 ghost use Rattle.message.specs.Walking.{unfit_of, after_file_value, after_options_value, next_field_value, number_of, scanned_of, Laid, Gives, low_watched, Bare, Tells};
 
-#[derive(Drop)]
+#[derive(Clone, Copy)]
 pub enum Field {
     Options,
     File,
@@ -90,7 +92,7 @@ pub fn sname_on(v: u32) -> bool
 
 // What is kept of the options met: of those with the wanted code, where the data of the first start in the message (0: none), where the code byte of the last
 // stands, and how many bytes of data all have; and the value of option 52 (0: not met).
-#[derive(Drop)]
+#[derive(Clone, Copy)]
 pub struct Kept {
     pub start: usize,
     pub last: usize,
@@ -100,7 +102,7 @@ pub struct Kept {
 
 // A walk: what is kept; how many bytes the options take in their fields and how many they are, where they are marked (else 0); how it ended (0: END; 1: no
 // more bytes; 2: an option runs past its field; 3: an option 52 that is refused; 4: a second one), and at which place of the message.
-#[derive(Drop)]
+#[derive(Clone, Copy)]
 pub struct Walked {
     pub kept: Kept,
     pub used: usize,
@@ -110,7 +112,7 @@ pub struct Walked {
 }
 
 // Where `pass` stops, how many options it has passed where they are marked, and whether a watched code stands there.
-#[derive(Drop)]
+#[derive(Clone, Copy)]
 pub struct Stop {
     pub at: usize,
     pub count: usize,
@@ -522,7 +524,7 @@ fn fields(
 // What a walk over a message tells: where the data of the first piece of the wanted code start (0: none), where the code byte of the last stands, and the bytes
 // of all its pieces; the value of option 52 (0: none); number and place of a refusal (0: none). Where codes are marked: the bytes that all options take in
 // their fields, and how many options there are; else 0.
-#[derive(Drop)]
+#[derive(Clone, Copy)]
 pub struct Scanned {
     pub start: usize,
     pub last: usize,
@@ -653,7 +655,7 @@ pub fn codes(m: &[u8], set: &mut [u64; 4]) -> Scanned
 }
 
 // Of bytes that hold items as a field holds options: whether one runs past them, and its offset; else the bytes that all take as records.
-#[derive(Drop)]
+#[derive(Clone, Copy)]
 pub struct Measured {
     pub past: bool,
     pub place: usize,

@@ -1,4 +1,6 @@
 // Numbers in bytes (document 01: "Multi-byte numbers have the high byte first"). Each function is total: bytes that are missing count as 0.
+#![tactic(auto)]
+
 ghost use Rattle.std.specs.Prelude.{◌≡◌, ◌<◌, get_or};
 ghost use Rattle.options.specs.Kinds.{pair16, word32, first16, first32, twos_complement};
 

@@ -1,4 +1,6 @@
 // The plan that a sheet is written by (document 01: "The first that fits is used, and its number is the answer"), or the refusal. Nothing is written.
+#![tactic(auto)]
+
 ghost use Rattle.std.specs.Prelude.{◌≡◌, cond, ltb, length, ◌+◌, ◌-◌, ◌*◌, ◌≤◌, ◌<◌};
 ghost use Rattle.options.specs.Writing.{pieces_left, Between};
 ghost use Rattle.plan.specs.Answer.{Answers, ChoiceByCase, RefusalsAreNumbered};
@@ -6,14 +8,14 @@ ghost use Rattle.plan.specs.Pieces.{size_of, piece_of};
 ghost use Rattle.plan.specs.Steps.{sizes, Single, RestOf, overloading, first_fit, Tries};
 
 // The plan, or number and place of the refusal. single: up to this place of the sheet each record is one piece.
-#[derive(Drop)]
+#[derive(Clone, Copy)]
 pub enum Choice {
     Plan { plan: u8, single: usize },
     Refused { number: u32, place: usize },
 }
 
 // The next piece of a record: the size of its data, how far the place of the record moves behind it, and how many bytes of data are done there.
-#[derive(Drop)]
+#[derive(Clone, Copy)]
 pub struct Piece {
     pub size: usize,
     pub ahead: usize,
@@ -22,7 +24,7 @@ pub struct Piece {
 
 // The pieces that a field leaves over: the place of their record in the sheet, the bytes of its data that are done, and how many bytes their
 // options take.
-#[derive(Drop)]
+#[derive(Clone, Copy)]
 pub struct Rest {
     pub place: usize,
     pub done: usize,

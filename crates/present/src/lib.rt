@@ -1,10 +1,12 @@
 // The codes present in a message (document 01, What is asked of a message: the roll call).
+#![tactic(auto)]
+
 ghost use Rattle.std.specs.Prelude.{◌≡◌};
 ghost use Rattle.options.specs.Answers.{present};
 ghost use Rattle.present.specs.Marked.{codes_of, CodesByCase, RefusedByANumber};
 
 // The set of the codes present, 52 included, how many they are, the lowest of them (0 if none), and number and place of a refusal: then the others are 0.
-#[derive(Drop)]
+#[derive(Clone, Copy)]
 pub struct Codes {
     pub words: [u64; 4],
     pub count: u32,

@@ -1,4 +1,6 @@
 // The theorems on the reply profile that crate options states: proofs only. There is no code here.
+#![tactic(auto)]
+
 ghost use Rattle.options.specs.ProfileClaims.{ProfileIsCorrect, NamedPiecesRight, SameNamedSameAnswer};
 ghost use Rattle.options.specs.ProfileCases.{ProfileCasesHold};
 

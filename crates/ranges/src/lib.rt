@@ -1,4 +1,6 @@
 // The row of a code in the table of kinds (document 01, The kinds, by code), decided from ranges of codes (document 02, request 04).
+#![tactic(auto)]
+
 ghost use Rattle.std.specs.Prelude.{◌≡◌, ◌<◌, ◌≤◌, ◌%◌, eqb};
 ghost use Rattle.ranges.specs.Rows.{row_number, NumbersKeepTheRow};
 ghost use Rattle.ranges.specs.Words.{range_row, GivesRowOf, in_ranges_value};
@@ -16,7 +18,7 @@ const ROW_121: u8 = 13;
 
 // Eight ranges of codes, one behind the other, or fewer: the first code of each, and the number of the row that its codes have. A byte is a range, the lowest
 // byte the first; one that is not used begins at 128.
-#[derive(Drop)]
+#[derive(Clone, Copy)]
 struct Ranges {
     firsts: u64,
     rows: u64,

@@ -1,4 +1,6 @@
 // A record written into a lent buffer (document 01, The settings sheet and the writer).
+#![tactic(auto)]
+
 ghost use Rattle.std.specs.Prelude.{◌≡◌};
 ghost use Rattle.record_writer.specs.Room.{with_record};
 

@@ -1,4 +1,6 @@
 // The records of a message (document 01, What is asked of a message): every option but 52 in reading order, written to a lent buffer.
+#![tactic(auto)]
+
 ghost use Rattle.std.specs.Prelude.{◌≡◌, true, cond, [], ◌+◌, ◌<◌, ◌≤◌, ◌^◌, ltb, length, set};
 ghost use Rattle.options.specs.Answers as answers;
 ghost use Rattle.buffer.specs.Written.{laid, Written};

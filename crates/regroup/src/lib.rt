@@ -1,4 +1,6 @@
 // Old sheets and grouped files (document 02, request 08): a sheet moves into a nameless outermost group, and such a file goes back.
+#![tactic(auto)]
+
 ghost use Rattle.std.specs.Prelude.{◌≡◌, ◌≤◌, length};
 ghost use Rattle.options.specs.SheetWalk.{records_from};
 ghost use Rattle.options.specs.Answers.{filled_with};

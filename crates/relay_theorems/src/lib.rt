@@ -1,4 +1,6 @@
 // The theorems on relay information that crate options states: proofs only. There is no code here.
+#![tactic(auto)]
+
 ghost use Rattle.options.specs.RelayClaims.{RelayReaderIsCorrect, RelayReadsTheRow, RelayRoomIsEnough, RelayWriterIsCorrect, RelayWriteRoomIsEnough, RelayNumbers, RelayComesBack, WrittenKeepsTheRow};
 ghost use Rattle.relay_theorems.specs.Cases.{RelayCasesHold, OrderCases};
 ghost use Rattle.relay_theorems.specs.Rowless.{RowlessCodes};

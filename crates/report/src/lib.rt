@@ -1,4 +1,6 @@
 // The report of captures as text (document 02, request 11).
+#![tactic(auto)]
+
 ghost use Rattle.std.specs.Prelude.{◌≡◌, cond, [], ◌≤◌, min, eqb, length, get_or, drop};
 ghost use Rattle.options.specs.Captures.{refusals_line, refusals_lines, code_line, code_lines, lease_line};
 ghost use Rattle.tally.specs.Noted.{lease_of};

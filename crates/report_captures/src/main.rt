@@ -1,4 +1,6 @@
 // Reads a file of captures on standard input, and writes its report to standard output (document 02, request 11).
+#![tactic(auto)]
+
 ghost use Rattle.std.specs.Prelude.{◌≡◌, ◌+◌, ◌%◌, ◌^◌, ◌≤◌, length, take};
 ghost use Rattle.captures.specs.Standing.{Feeds};
 ghost use Rattle.report_captures.specs.Filled.{Filled, Printed};
@@ -6,21 +8,21 @@ ghost use Rattle.report_captures.specs.Filled.{Filled, Printed};
 use captures::Progress;
 
 // How many bytes one filling of the reading buffer has, and how many were read with it: 2 ^ 64 are 0 again.
-#[derive(Drop)]
+#[derive(Clone, Copy)]
 struct Filling {
     size: usize,
     total: u64,
 }
 
 // What was taken of the file, which has `total` bytes.
-#[derive(Drop)]
+#[derive(Clone, Copy)]
 struct Taken {
     progress: Progress,
     total: u64,
 }
 
 // What is printed: the text's length, and how many bytes were read for it.
-#[derive(Drop)]
+#[derive(Clone, Copy)]
 struct Text {
     size: usize,
     total: u64,

@@ -1,4 +1,6 @@
 // Reads data of option 121, routes to write and messages from standard input, and prints what the calls on classless routes that C links give of each (tests/routes/README.md).
+#![tactic(auto)]
+
 use console::{number, one, two, word};
 use dhcpopt_routes::{PlainIgnored, PlainRoute};
 use filled::PlainFilled;

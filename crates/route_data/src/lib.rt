@@ -1,4 +1,6 @@
 // The routes in the data of option 121 (document 02, request 14; RFC 3442): each a width byte, the width's whole and begun bytes of destination, and four bytes of router.
+#![tactic(auto)]
+
 ghost use Rattle.std.specs.Prelude.{◌≡◌, drop};
 ghost use Rattle.options.specs.Kinds.{width_bytes, routes_fault_value};
 ghost use Rattle.route_data.specs.Route.{fault_here};

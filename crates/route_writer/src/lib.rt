@@ -1,4 +1,6 @@
 // The writer of classless routes (document 02, request 14; RFC 3442): nine bytes a route (width, destination, router) become the data of option 121.
+#![tactic(auto)]
+
 ghost use Rattle.std.specs.Prelude.{◌≡◌, not, ◌+◌, ◌≤◌, eqb, length, get_or, drop};
 ghost use Rattle.std.proofs.Math.Option.{none};
 ghost use Rattle.options.specs.Kinds.{width_bytes};
@@ -10,7 +12,7 @@ ghost use Rattle.route_writer.specs.Measure.{faulty_at, measured};
 use filled::Given;
 
 // The number of the first faulty route, or how many bytes the routes take.
-#[derive(Drop)]
+#[derive(Clone, Copy)]
 pub enum Measured {
     Faulty(usize),
     Size(usize),

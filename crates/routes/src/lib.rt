@@ -1,10 +1,12 @@
 // The walk over the data of option 121, classless routes (document 02, request 14; RFC 3442): a reader remembers the data it was opened on and its place in it.
+#![tactic(auto)]
+
 ghost use Rattle.std.specs.Prelude.{◌≡◌};
 ghost use Rattle.options.specs.Routes.{cleared, route_step};
 ghost use Rattle.routes.specs.Walk.{cursor_of, step_of, ReaderGivesTheRoutes, CursorKeepsTheStep, DoneGivesNothing};
 
 // What stands at a place of the data (document 02, request 14): a route and the place behind it, or nothing and the same place.
-#[derive(Drop)]
+#[derive(Clone, Copy)]
 pub struct Cursor {
     pub given: bool,
     pub destination: u32,
@@ -14,14 +16,14 @@ pub struct Cursor {
 }
 
 // The data and a place in them (document 02, request 14).
-#[derive(Drop)]
+#[derive(Clone, Copy)]
 pub struct RouteReader<'a> {
     pub list: &'a [u8],
     pub at: usize,
 }
 
 // A step (document 02, request 14): the reader moved on, whether a route is given, and which. Done: none is, and the reader is where it was.
-#[derive(Drop)]
+#[derive(Clone, Copy)]
 pub struct Stepped<'a> {
     pub reader: RouteReader<'a>,
     pub given: bool,

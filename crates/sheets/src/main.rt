@@ -1,4 +1,6 @@
 // Reads settings sheets from standard input, writes each into a buffer, and prints what was written (tests/sheets/README.md).
+#![tactic(auto)]
+
 mod names;
 mod print;
 

@@ -1,4 +1,6 @@
 // The tally of messages (document 02, request 11): what one message more adds to it. The caller lends the numbers.
+#![tactic(auto)]
+
 ghost use Rattle.std.specs.Prelude.{◌≡◌, ◌+◌, ◌<◌, min, max, ◌++◌, take};
 ghost use Rattle.std.proofs.Math.Option.{none, some};
 ghost use Rattle.options.specs.Reading.{read_message};
@@ -17,7 +19,7 @@ ghost use Rattle.tally.specs.Noted.{lease_of, lease_in, time_in_value, widened_b
 use message::Scanned;
 
 // The smallest and the largest lease time, if there is any.
-#[derive(Drop)]
+#[derive(Clone, Copy)]
 pub struct Lease {
     pub any: bool,
     pub smallest: u32,
@@ -25,7 +27,7 @@ pub struct Lease {
 }
 
 // The lease time of a message, if it has a well-formed one.
-#[derive(Drop)]
+#[derive(Clone, Copy)]
 pub struct Time {
     pub any: bool,
     pub seconds: u32,

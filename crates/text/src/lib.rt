@@ -1,4 +1,6 @@
 // Text put into a lent buffer: words, bytes and numbers in decimal.
+#![tactic(auto)]
+
 ghost use Rattle.std.specs.Prelude.{[], ◌∷◌};
 ghost use Rattle.options.specs.Answers.{decimal};
 ghost use Rattle.text.specs.Text.{Puts};

@@ -1,4 +1,6 @@
 // Where the options field of a message has its END, so that a sender can cut off what follows (docs/RULES.md, Q19).
+#![tactic(auto)]
+
 ghost use Rattle.std.specs.Prelude.{◌≡◌, cond, ◌≤◌, ◌<◌, length};
 ghost use Rattle.options.specs.Message.{bytes};
 ghost use Rattle.options.specs.Reading.{is_options_value};
@@ -13,7 +15,7 @@ use message::Field;
 
 // refusal: 0 where the message is accepted, and place is that of its END; else the number of the refusal, and its place.
 #[repr(C)]
-#[derive(Drop)]
+#[derive(Clone, Copy)]
 pub struct PlainEnd {
     pub refusal: u32,
     pub place: usize,
@@ -21,7 +23,7 @@ pub struct PlainEnd {
 
 // What a look at an offset comes to: whether the walk of the field ends; the offset of END, or that where it goes on; the value of option 52 (0: not met); number and
 // place of a refusal (0: none).
-#[derive(Drop)]
+#[derive(Clone, Copy)]
 pub struct Seen {
     pub done: bool,
     pub at: usize,

@@ -1,4 +1,6 @@
 // Reads messages from standard input, and prints what the calls answer for each (tests/vectors/README.md).
+#![tactic(auto)]
+
 mod extra;
 mod indexes;
 mod names;

@@ -1,4 +1,6 @@
 // The theorems on vendor information that crate options states: proofs only. There is no code here.
+#![tactic(auto)]
+
 ghost use Rattle.options.specs.VendorClaims.{VendorReaderIsCorrect, VendorRoomIsEnough, VendorWriterIsCorrect, VendorWriteRoomIsEnough, VendorNumbers, VendorComesBack};
 ghost use Rattle.options.specs.VendorCases.{VendorCasesHold};
 

@@ -1,10 +1,12 @@
 // The options of one field of a message, one after another (document 01, The message and its fields). All offsets are in the field.
+#![tactic(auto)]
+
 ghost use Rattle.std.specs.Prelude.{◌≡◌, ◌<◌, length, get_or, drop};
 ghost use Rattle.options.specs.Reading.{parse};
 ghost use Rattle.wire.specs.Ahead.{next_of, SpotKeepsTheOption};
 
 // What a field holds from an offset on, pads passed over.
-#[derive(Drop)]
+#[derive(Clone, Copy)]
 pub enum Spot {
     Item { offset: usize, code: u8, len: usize },
     Stop,

@@ -1,4 +1,6 @@
 // The writer (document 01, The settings sheet and the writer): a sheet into a buffer by the first permitted plan that fits, or a refusal.
+#![tactic(auto)]
+
 ghost use Rattle.std.specs.Prelude.{◌≡◌, cond, ◌+◌, ◌-◌, ◌<◌, ◌≤◌, length, drop};
 ghost use Rattle.options.specs.Message.{cookie};
 ghost use Rattle.options.specs.Reading.{file_in, sname_in};

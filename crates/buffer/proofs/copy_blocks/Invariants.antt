@@ -1,0 +1,16 @@
+-- `buffer::copy_blocks` meets its contract. Assumes nothing.
+use borrow.Author.Rules.{rules}
+use mathlib.Core.Path.{◌≡◌, refl, ap, ◌∙◌}
+use mathlib.Core.List.{List}
+use Prim.Native.Nat.{ℕ, ◌+◌, ◌-◌, ◌≤◌, ◌<◌, min}
+use native.Mathlib.Omega.{arith}
+use lib.ListN.{length, take, drop}
+use borrow.Rule.Slice.PartMut.{put_mid}
+use Rattle.buffer.proofs.Laws.{front, front_part, front_before, front_after, front_all}
+use Rattle.buffer.proofs.copy_blocks.Given as goal
+
+abbrev pub invariant-loop-at : goal.invariant-loop-at
+invariant-loop-at l = (l.at ≤ l.last) × (take l.at l.dst ≡ take l.at l.src) × (drop (l.at + 128) l.dst ≡ drop (l.at + 128) l.initial.dst) × (length l.dst ≡ length l.initial.dst)
+
+abbrev pub decreases-loop-at : goal.decreases-loop-at
+decreases-loop-at l = l.last - l.at

@@ -1,0 +1,6 @@
+-- `captures::behind` meets its contract. Assumes nothing.
+use Rattle.std.proofs.Common.{refl, rules}
+use Rattle.captures.proofs.behind.Goals as goal
+
+pub returns : goal.returns
+returns c = rw (c.wrapping_add_u64-2.ensures, c.wrapping_add_u64.ensures, c.wrapping_add_u64-data.ensures, c.widen-lease.ensures)

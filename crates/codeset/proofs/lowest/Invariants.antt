@@ -1,0 +1,15 @@
+use borrow.Author.Rules.{rules}
+use native.Mathlib.Omega.{arith}
+use mathlib.Core.Path.{◌≡◌, sym, ◌∙◌}
+use Prim.Native.Nat.{ℕ, ◌≤◌, ◌-◌, ◌+◌}
+use lib.ListN.{length, get_or, drop}
+use lib.Count.{trailing_le}
+use Rattle.options.specs.CodeSet.{lowest_of}
+use Rattle.codeset.proofs.Words.{lowest_here, lowest_next, lowest_none}
+use Rattle.codeset.proofs.lowest.Given as goal
+
+abbrev pub invariant-loop-k : goal.invariant-loop-k
+invariant-loop-k l = (l.k ≤ 4) × (lowest_of (drop l.k l.w) l.k ≡ lowest_of l.w 0)
+
+abbrev pub decreases-loop-k : goal.decreases-loop-k
+decreases-loop-k l = 4 - l.k

@@ -1,0 +1,22 @@
+-- `console::sum` meets its contract: what is kept and the bytes that are left give the number. Assumes nothing.
+use Rattle.std.proofs.Common.{◌≡◌, ℕ, suc, ◌+◌, ◌-◌, ◌*◌, ◌%◌, ◌<◌, ◌≤◌, List, length, get_or, drop, sym, refl, ap, ◌∙◌, ap₂, arith, drop_of_length-le, drop-cons, rules}
+use Rattle.console.specs.Sum.{sum_of}
+use Rattle.console.proofs.sum.Goals as goal
+
+step : (s : List ℕ) (t i j : ℕ) → i < length s → j ≡ suc i → sum_of t (drop i s) ≡ sum_of ((t * 31 + get_or s i 0) % 1000003) (drop j s)
+unfolding sum_of
+step s t i j h e = ap (sum_of t) (drop-cons s i 0 h) ∙ ap (λ (k : ℕ). sum_of ((t * 31 + get_or s i 0) % 1000003) (drop k s)) (sym e)
+
+ends : (s : List ℕ) (t i : ℕ) → length s ≤ i → sum_of t (drop i s) ≡ t
+unfolding sum_of
+ends s t i h = ap (sum_of t) (drop_of_length-le s h)
+
+pub loop-i-init : goal.loop-i-init
+loop-i-init c = (search rules, search rules, refl)
+
+pub loop-i-preserved : goal.loop-i-preserved
+loop-i-preserved c = let s : List ℕ = c.args.s.now in
+    (search rules, search rules, rw c.wide.ensures.0 (sym (step s c.loop-i.t c.loop-i.i (c.loop-i.i + 1) c.loop-i-test.true (omega arith))) ∙ c.loop-i.invariant.2)
+
+pub returns : goal.returns
+returns c = sym (ends c.args.s.now c.loop-i.t c.loop-i.i c.loop-i-test.false) ∙ c.loop-i.invariant.2

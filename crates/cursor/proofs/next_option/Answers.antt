@@ -1,0 +1,18 @@
+-- `cursor::next_option` meets its contract. Assumes nothing.
+use borrow.Author.Rules.{rules}
+use mathlib.Core.Path.{sym, ◌∙◌}
+use Rattle.message.specs.Fields.{field_of}
+use Rattle.message.specs.Active.{field_from, later_fields, options_from}
+use Rattle.cursor.proofs.Fields.{step_here, step_later}
+use Rattle.cursor.proofs.next_option.Goals as goal
+
+pub returns-in-Done : goal.returns-in-Done
+unfolding options_from
+returns-in-Done c = let fd = field_of c.args.from.field in
+    step_later c.after_field.result (field_from c.args.over c.args.m.now fd c.args.from.offset) (later_fields c.args.over c.args.m.now fd) (sym c.enum_told-1.given.1 ∙ c.in_field-s.ensures) c.after_field.ensures
+
+pub returns-in_default : goal.returns-in_default
+unfolding options_from
+returns-in_default c = let fd = field_of c.args.from.field in
+    let e = c.enum_told-in_default-1.given.1 in
+    step_here c.in_field-s.result (field_from c.args.over c.args.m.now fd c.args.from.offset) (later_fields c.args.over c.args.m.now fd) e c.in_field-s.ensures

@@ -1,0 +1,12 @@
+-- `dhcpopt_captures::dhcpopt_captures_report` meets its contract. Assumes nothing.
+use borrow.Author.Rules.{rules}
+use mathlib.Core.Path.{subst}
+use Rattle.captures.specs.declared.Progress.{Progress}
+use Rattle.report.specs.Printed.{Reports}
+use Rattle.dhcpopt_captures.proofs.dhcpopt_captures_report.Goals as goal
+
+pub returns : goal.returns
+returns c = (
+  c.report.ensures.0,
+  subst (λ (y : Progress). Reports y c.args.verdicts.now c.args.held.now c.args.bytes.now c.args.out.now c.report.result c.report.new.held.1.1.1.0) c.progress_of.ensures c.report.ensures.1,
+)

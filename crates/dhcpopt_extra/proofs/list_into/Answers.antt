@@ -1,0 +1,24 @@
+-- `dhcpopt_extra::list_into` meets its contract. Assumes nothing.
+use borrow.Author.Rules.{rules}
+use mathlib.Core.Path.{◌≡◌, sym, ap, subst}
+use mathlib.Core.List.{List}
+use Prim.Native.Nat.{ℕ}
+use native.Mathlib.Omega.{arith}
+use lib.ListN.{length, replicate, length-append}
+use lib.Seq.{length-take-le}
+use Rattle.options.specs.Answers.{Filled, filled_with, listing}
+use Rattle.options.specs.Listed.{listed}
+use Rattle.filled.specs.Fill.{Fills}
+use Rattle.dhcpopt_extra.proofs.Listing.{listed_as, text_of_lem}
+use Rattle.dhcpopt_extra.proofs.list_into.Goals as goal
+
+pub slice_bounds-text-end : goal.slice_bounds-text-end
+slice_bounds-text-end c = omega (arith, c.list-n.ensures.0, simp length-append at (ap length c.list-n.ensures.1))
+
+pub slice_bounds-give-end : goal.slice_bounds-give-end
+slice_bounds-give-end c = sym (length-take-le c.list-n.result c.list-n.new.out.0 (array-share-prefix-text c.before))
+
+pub returns : goal.returns
+returns c = let m = c.args.m.now in
+    let t = text_of_lem (listing m) c.list-n.new.out.0 (replicate 16384 0) c.list-n.result c.list-n.ensures.0 c.list-n.ensures.1 in
+    rw (listed_as m c.args.out.now) (rw t at c.give.ensures)

@@ -1,0 +1,30 @@
+use mathlib.Core.Path.{ap₂, ◌∙◌}
+use Rattle.dhcpopt_profile.specs.Judging.{before_by}
+use Rattle.dhcpopt_profile.proofs.Entries.{order_no_router, order_no_mask, order_places}
+use borrow.Author.Rules.{rules}
+use Rattle.dhcpopt_profile.proofs.out_of_order.Reads as reads
+use Rattle.dhcpopt_profile.proofs.out_of_order.Lts as lts
+use Rattle.dhcpopt_profile.proofs.before.Reads as before-reads
+use Rattle.dhcpopt_profile.proofs.look.Reads as look-reads
+use Rattle.dhcpopt_profile.proofs.read_before.Reads as read-before-reads
+use Rattle.dhcpopt_profile.proofs.out_of_order.Goals as goal
+
+-- src/lib.rt:152:9
+pub returns-then-router-eq0 : goal.returns-then-router-eq0
+returns-then-router-eq0 c = order_no_router c.args.m.now c.args.index.now c.requires c.if-router-eq0.true
+
+-- src/lib.rt:155:9
+pub returns-then-mask-eq0 : goal.returns-then-mask-eq0
+returns-then-mask-eq0 c = order_no_mask c.args.m.now c.args.index.now c.requires c.if-mask-eq0.true
+
+-- src/lib.rt:158:9
+pub returns-then-router : goal.returns-then-router
+returns-then-router c = c.before-then-router.ensures ∙ ap₂ before_by c.look.ensures c.look-then-router.ensures
+
+-- src/lib.rt:161:9
+pub returns-then-mask : goal.returns-then-mask
+returns-then-mask c = c.before-then-mask.ensures ∙ ap₂ before_by c.look-then-mask.ensures c.look-then-mask-2.ensures
+
+-- src/lib.rt:145:1
+pub returns : goal.returns
+returns c = c.read_before.ensures ∙ order_places c.args.m.now c.args.index.now c.requires c.if-router-eq0.false c.if-mask-eq0.false c.if-router.false c.if-mask.false

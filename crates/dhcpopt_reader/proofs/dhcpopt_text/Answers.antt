@@ -1,0 +1,8 @@
+-- `dhcpopt_reader::dhcpopt_text` meets its contract. Assumes nothing.
+use borrow.Author.Rules.{rules}
+use mathlib.Core.Path.{ap, ◌∙◌}
+use Rattle.dhcpopt_reader.specs.Plain.{plain_extent}
+use Rattle.dhcpopt_reader.proofs.dhcpopt_text.Goals as goal
+
+pub returns : goal.returns
+returns c = c.of_extent.ensures ∙ ap plain_extent c.text_extent.ensures

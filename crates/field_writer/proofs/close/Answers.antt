@@ -1,0 +1,26 @@
+-- `field_writer::close` meets its contract. Assumes nothing.
+use borrow.Author.Rules.{rules}
+use native.Mathlib.Omega.{arith}
+use mathlib.Core.Path.{◌∙◌}
+use mathlib.Core.List.{List}
+use Prim.Native.Nat.{ℕ, ◌<◌}
+use lib.ListN.{length, length-set}
+use Rattle.field_writer.proofs.Bytes.{put_end, no_end}
+use Rattle.field_writer.proofs.close.Goals as goal
+
+pub returns-then-room-eq0 : goal.returns-then-room-eq0
+returns-then-room-eq0 c = no_end c.args.room.now c.if-room-eq0.true
+
+pub slice_bounds-clear-count : goal.slice_bounds-clear-count
+slice_bounds-clear-count c = simp length-set (omega (arith, c.if-room-eq0.false))
+
+pub slice_bounds-clear-start : goal.slice_bounds-clear-start
+slice_bounds-clear-start c = simp length-set (omega (arith, c.if-room-eq0.false))
+
+pub shape_of-room : goal.shape_of-room
+shape_of-room c = c.room-1.given.1 ∙ simp length-set
+
+pub returns : goal.returns
+returns c = let room : List ℕ = c.args.room.now in
+    let some : 0 < length room = omega (arith, c.if-room-eq0.false) in
+    put_end room c.clear.new.room some c.clear.ensures

@@ -1,0 +1,12 @@
+-- `gather::put_piece` meets its contract. Assumes nothing.
+use borrow.Author.Rules.{rules}
+use borrow.Author.Tests.{not-true, not-false}
+use mathlib.Core.Path.{◌∙◌}
+use Rattle.text.proofs.Putting.{puts_none, puts_as}
+use Rattle.gather.proofs.put_piece.Goals as goal
+
+pub returns-then-not-piece : goal.returns-then-not-piece
+returns-then-not-piece c = rw (not-true c.args.piece c.if-not-piece.true) (puts_none c.args.out.now c.args.at)
+
+pub returns : goal.returns
+returns c = rw (not-false c.args.piece c.if-not-piece.false) (puts_as c.part.ensures.0 c.put_word.ensures)

@@ -1,0 +1,20 @@
+-- `groups::members_at` meets its contract. Assumes nothing.
+use mathlib.Core.Path.{sym, ap, ◌∙◌}
+use Prim.Native.Nat.{ℕ, ◌+◌}
+use native.Mathlib.Omega.{arith}
+use Rattle.groups.proofs.Laws.{no_members, some_members}
+use borrow.Author.Rules.{rules}
+use Rattle.groups.proofs.members_at.Goals as goal
+
+pub returns-then-s-lt4 : goal.returns-then-s-lt4
+returns-then-s-lt4 c = sym (no_members c.args.s.now c.args.tag (omega arith))
+
+pub returns-then-s-tag : goal.returns-then-s-tag
+returns-then-s-tag c = sym (no_members c.args.s.now c.args.tag (omega arith))
+
+pub returns-then-s-tag-2 : goal.returns-then-s-tag-2
+returns-then-s-tag-2 c = sym (no_members c.args.s.now c.args.tag (omega (arith, c.wide-n.ensures.0)))
+
+pub returns : goal.returns
+returns c = let n = c.wide-n.ensures.0 in
+    ap (λ (k : ℕ). c.args.tag + 4 + k) n ∙ sym (some_members c.args.s.now c.args.tag (omega (arith, n)))

@@ -1,0 +1,75 @@
+-- `groups::past_records` meets its contract: at each turn what is left of the members gives the same place. Assumes nothing.
+use borrow.Author.Rules.{rules}
+use mathlib.Core.Path.{◌≡◌, refl, sym, ◌∙◌}
+use mathlib.Core.Logic.{inl, inr}
+use Prim.Native.Nat.{◌-◌}
+use native.Mathlib.Omega.{arith}
+use lib.ListN.{length, drop}
+use Rattle.options.specs.SheetWalk.{records_from}
+use Rattle.sheet.specs.Steps.{step_of}
+use Rattle.sheet.specs.declared.Step.TheVariants.{Record, Cut, End}
+use Rattle.groups.specs.Parts.{past_records_value}
+use Rattle.groups.proofs.Laws.{item_room, past_by, past_stop, past_on}
+use Rattle.groups.proofs.past_records.Goals as goal
+
+pub loop-tag-init : goal.loop-tag-init
+loop-tag-init c = refl
+
+pub returns-in-End : goal.returns-in-End
+unfolding past_records_value
+returns-in-End c = let s = c.args.s.now in
+    sym (sym c.loop-tag.invariant ∙ past_by s c.loop-tag.i End (sym c.enum_told-1.given.1 ∙ c.next_record.ensures))
+
+pub returns-in-Cut : goal.returns-in-Cut
+unfolding past_records_value
+returns-in-Cut c = let s = c.args.s.now in
+    sym (sym c.loop-tag.invariant ∙ past_by s c.loop-tag.i Cut (sym c.enum_told-in-Cut-1.given.1 ∙ c.next_record.ensures))
+
+pub returns-then-tag-eq0 : goal.returns-then-tag-eq0
+returns-then-tag-eq0 c = let tag = c.tag-1.given in
+    let s = c.args.s.now in
+    let i = c.loop-tag.i in
+    let e : Record tag.0.0 tag.0.1.0 ≡ step_of (records_from i 0 (drop i s)) = sym tag.1 ∙ c.next_record.ensures in
+    sym (sym c.loop-tag.invariant ∙ past_stop s i tag.0.0 tag.0.1.0 e (inl c.if-tag-eq0.true))
+
+pub returns-then-tag-eq52 : goal.returns-then-tag-eq52
+returns-then-tag-eq52 c = let tag = c.tag-1.given in
+    let s = c.args.s.now in
+    let i = c.loop-tag.i in
+    let e : Record tag.0.0 tag.0.1.0 ≡ step_of (records_from i 0 (drop i s)) = sym tag.1 ∙ c.next_record.ensures in
+    sym (sym c.loop-tag.invariant ∙ past_stop s i tag.0.0 tag.0.1.0 e (inr (inl c.if-tag-eq52.true)))
+
+pub returns-then-tag : goal.returns-then-tag
+returns-then-tag c = let tag = c.tag-1.given in
+    let s = c.args.s.now in
+    let i = c.loop-tag.i in
+    let e : Record tag.0.0 tag.0.1.0 ≡ step_of (records_from i 0 (drop i s)) = sym tag.1 ∙ c.next_record.ensures in
+    sym (sym c.loop-tag.invariant ∙ past_stop s i tag.0.0 tag.0.1.0 e (inr (inr c.if-tag.true)))
+
+pub overflow_add-i : goal.overflow_add-i
+overflow_add-i c = let tag = c.tag-1.given in
+    let s = c.args.s.now in
+    let i = c.loop-tag.i in
+    let e : Record tag.0.0 tag.0.1.0 ≡ step_of (records_from i 0 (drop i s)) = sym tag.1 ∙ c.next_record.ensures in
+    omega (arith, item_room s i 0 tag.0.0 tag.0.1.0 e)
+
+pub overflow_add-i-in-Record : goal.overflow_add-i-in-Record
+overflow_add-i-in-Record c = let tag = c.tag-1.given in
+    let s = c.args.s.now in
+    let i = c.loop-tag.i in
+    let e : Record tag.0.0 tag.0.1.0 ≡ step_of (records_from i 0 (drop i s)) = sym tag.1 ∙ c.next_record.ensures in
+    omega (arith, item_room s i 0 tag.0.0 tag.0.1.0 e)
+
+pub loop-tag-smaller : goal.loop-tag-smaller
+loop-tag-smaller c = let tag = c.tag-1.given in
+    let s = c.args.s.now in
+    let i = c.loop-tag.i in
+    let e : Record tag.0.0 tag.0.1.0 ≡ step_of (records_from i 0 (drop i s)) = sym tag.1 ∙ c.next_record.ensures in
+    omega (arith, item_room s i 0 tag.0.0 tag.0.1.0 e)
+
+pub loop-tag-preserved : goal.loop-tag-preserved
+loop-tag-preserved c = let tag = c.tag-1.given in
+    let s = c.args.s.now in
+    let i = c.loop-tag.i in
+    let e : Record tag.0.0 tag.0.1.0 ≡ step_of (records_from i 0 (drop i s)) = sym tag.1 ∙ c.next_record.ensures in
+    sym (past_on s i tag.0.0 tag.0.1.0 e c.if-tag-eq0.false c.if-tag-eq52.false c.if-tag.false) ∙ c.loop-tag.invariant

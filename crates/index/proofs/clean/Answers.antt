@@ -1,0 +1,7 @@
+-- `index::clean` meets its contract. Assumes nothing.
+use borrow.Author.Rules.{rules}
+use mathlib.Core.Path.{◌≡◌, refl}
+use Rattle.index.proofs.clean.Goals as goal
+
+pub returns : goal.returns
+returns c = rw c.entry_52-over.ensures refl

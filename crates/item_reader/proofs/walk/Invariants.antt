@@ -1,0 +1,14 @@
+-- `item_reader::walk` meets its contract: at each turn what is left of the bytes, with what was met, tells of the whole. Assumes nothing.
+use borrow.Author.Rules.{rules}
+use native.Mathlib.Omega.{arith}
+use mathlib.Core.Path.{◌≡◌, refl, sym, ap, ◌∙◌}
+use Prim.Native.Nat.{ℕ, ◌+◌, ◌-◌}
+use lib.ListN.{length}
+use Rattle.item_reader.proofs.Walking.{Walking, begins, ends, cut, runs_past, moves}
+use Rattle.item_reader.proofs.walk.Given as goal
+
+abbrev pub invariant-loop-at : goal.invariant-loop-at
+invariant-loop-at l = Walking l.f l.count l.cs l.cn l.rs l.rn l.at
+
+abbrev pub decreases-loop-at : goal.decreases-loop-at
+decreases-loop-at l = length l.f - l.at

@@ -1,0 +1,6 @@
+-- `lookup::data` meets its contract. Assumes nothing.
+use borrow.Author.Rules.{rules}
+use Rattle.lookup.proofs.data.Goals as goal
+
+pub returns : goal.returns
+returns c = rw (← c.data_extent-e.ensures) c.part.ensures

@@ -1,0 +1,6 @@
+-- `lookup::text` meets its contract. Assumes nothing.
+use borrow.Author.Rules.{rules}
+use Rattle.lookup.proofs.text.Goals as goal
+
+pub returns : goal.returns
+returns c = rw (← c.text_extent-e.ensures) c.part.ensures

@@ -1,0 +1,14 @@
+-- `message::fields` meets its contract: at each turn the fields that are left give the same as all. Assumes nothing.
+use borrow.Author.Rules.{rules}
+use native.Mathlib.Omega.{arith}
+use mathlib.Core.Path.{◌≡◌, refl, sym, ap, ◌∙◌}
+use Prim.Native.Nat.{ℕ, ◌+◌, ◌-◌, ◌≤◌, ◌<◌}
+use lib.ListN.{length}
+use Rattle.message.proofs.Turns.{Turning, turning_begins, turning_refused, turning_ends, turning_less, turning_two, turning_file, turning_sname, part_length, turn_small}
+use Rattle.message.proofs.fields.Given as goal
+
+abbrev pub invariant-loop-s : goal.invariant-loop-s
+invariant-loop-s l = Turning l.watched l.marks l.want l.first l.m l.initial.set l.set l.s l.turn l.from l.to
+
+abbrev pub decreases-loop-s : goal.decreases-loop-s
+decreases-loop-s l = 3 - l.turn

@@ -1,0 +1,63 @@
+-- `regroup::is_plain` meets its contract: at each turn what is left of the file gives the answer for the whole. Assumes nothing.
+use borrow.Author.Rules.{rules}
+use mathlib.Core.Path.{◌≡◌, sym, ◌∙◌}
+use Prim.Native.Nat.{◌-◌}
+use native.Mathlib.Omega.{arith}
+use lib.ListN.{length, drop}
+use Rattle.options.specs.SheetWalk.{records_from}
+use Rattle.sheet.specs.Steps.{step_of}
+use Rattle.sheet.specs.declared.Step.TheVariants.{Record, Cut, End}
+use Rattle.regroup.specs.Parts.{none_group, plain_in}
+use Rattle.regroup.proofs.Laws.{none_by, record_room, gone_group, gone_on, named, nameless}
+use Rattle.regroup.proofs.is_plain.Goals as goal
+
+pub returns-then-byte-ne0 : goal.returns-then-byte-ne0
+returns-then-byte-ne0 c = let f = c.args.f.now in sym (named f (λ z. c.if-byte-ne0.true (c.byte.ensures ∙ z)))
+
+pub loop-tag-init : goal.loop-tag-init
+loop-tag-init c = let f = c.args.f.now in sym (nameless f (sym c.byte.ensures ∙ c.if-byte-ne0.false))
+
+pub returns-in-End : goal.returns-in-End
+unfolding none_group
+returns-in-End c = let f = c.args.f.now in
+    sym (sym c.loop-tag.invariant ∙ none_by f c.loop-tag.at End (sym c.enum_told-1.given.1 ∙ c.next_record.ensures))
+
+pub returns-in-Cut : goal.returns-in-Cut
+unfolding none_group
+returns-in-Cut c = let f = c.args.f.now in
+    sym (sym c.loop-tag.invariant ∙ none_by f c.loop-tag.at Cut (sym c.enum_told-in-Cut-1.given.1 ∙ c.next_record.ensures))
+
+pub returns-then-tag-eq0 : goal.returns-then-tag-eq0
+returns-then-tag-eq0 c = let tag = c.tag-1.given in
+    let f = c.args.f.now in
+    let at = c.loop-tag.at in
+    let e : Record tag.0.0 tag.0.1.0 ≡ step_of (records_from at 0 (drop at f)) = sym tag.1 ∙ c.next_record.ensures in
+    sym (sym c.loop-tag.invariant ∙ gone_group f at tag.0.0 tag.0.1.0 e c.if-tag-eq0.true)
+
+pub overflow_add-at : goal.overflow_add-at
+overflow_add-at c = let tag = c.tag-1.given in
+    let f = c.args.f.now in
+    let at = c.loop-tag.at in
+    let e : Record tag.0.0 tag.0.1.0 ≡ step_of (records_from at 0 (drop at f)) = sym tag.1 ∙ c.next_record.ensures in
+    omega (arith, record_room f at tag.0.0 tag.0.1.0 e)
+
+pub overflow_add-at-in-Record : goal.overflow_add-at-in-Record
+overflow_add-at-in-Record c = let tag = c.tag-1.given in
+    let f = c.args.f.now in
+    let at = c.loop-tag.at in
+    let e : Record tag.0.0 tag.0.1.0 ≡ step_of (records_from at 0 (drop at f)) = sym tag.1 ∙ c.next_record.ensures in
+    omega (arith, record_room f at tag.0.0 tag.0.1.0 e)
+
+pub loop-tag-smaller : goal.loop-tag-smaller
+loop-tag-smaller c = let tag = c.tag-1.given in
+    let f = c.args.f.now in
+    let at = c.loop-tag.at in
+    let e : Record tag.0.0 tag.0.1.0 ≡ step_of (records_from at 0 (drop at f)) = sym tag.1 ∙ c.next_record.ensures in
+    omega (arith, record_room f at tag.0.0 tag.0.1.0 e)
+
+pub loop-tag-preserved : goal.loop-tag-preserved
+loop-tag-preserved c = let tag = c.tag-1.given in
+    let f = c.args.f.now in
+    let at = c.loop-tag.at in
+    let e : Record tag.0.0 tag.0.1.0 ≡ step_of (records_from at 0 (drop at f)) = sym tag.1 ∙ c.next_record.ensures in
+    sym (gone_on f at tag.0.0 tag.0.1.0 e c.if-tag-eq0.false) ∙ c.loop-tag.invariant

@@ -1,0 +1,16 @@
+-- `route_data::first_fault` meets its contract: the routes from a place on are judged as all are. Assumes nothing.
+use borrow.Author.Rules.{rules}
+use native.Mathlib.Omega.{arith}
+use mathlib.Core.Path.{◌≡◌, refl, sym, ap, ◌∙◌}
+use Prim.Native.Nat.{ℕ, ◌+◌, ◌-◌, ◌≤◌}
+use lib.ListN.{length, get_or, drop}
+use Rattle.options.specs.Kinds.{width_bytes, routes_fault_value}
+use Rattle.route_data.specs.Route.{fault_here}
+use Rattle.route_data.proofs.Places.{routes_end, routes_stop, route_within, routes_next}
+use Rattle.route_data.proofs.first_fault.Given as goal
+
+abbrev pub invariant-loop-at : goal.invariant-loop-at
+invariant-loop-at l = (l.at ≤ length l.d) × (routes_fault_value 0 (drop l.at l.d) ≡ routes_fault_value 0 l.d)
+
+abbrev pub decreases-loop-at : goal.decreases-loop-at
+decreases-loop-at l = length l.d - l.at

@@ -1,0 +1,17 @@
+-- `trim::walk` meets its contract. Assumes nothing.
+use borrow.Author.Rules.{rules}
+use mathlib.Core.Path.{◌≡◌, refl, sym, ap, ◌∙◌}
+use Prim.Native.Nat.{ℕ, ◌+◌, ◌-◌, ◌≤◌}
+use native.Mathlib.Omega.{arith}
+use lib.ListN.{length}
+use Rattle.options.specs.Message.{start}
+use Rattle.message.specs.Fields.{field_of}
+use Rattle.trim.specs.Ending.{seen_refused, seen_from}
+use Rattle.trim.proofs.Steps.{at_none}
+use Rattle.trim.proofs.walk.Given as goal
+
+abbrev pub invariant-loop-i : goal.invariant-loop-i
+invariant-loop-i l = (l.i ≤ length l.f) × (seen_from (field_of l.field) l.f l.over l.i ≡ seen_from (field_of l.field) l.f 0 0)
+
+abbrev pub decreases-loop-i : goal.decreases-loop-i
+decreases-loop-i l = length l.f - l.i

@@ -50,7 +50,8 @@ head_found : (x n : ℕ) (ys : List ℕ) (at : ℕ) → (x ≡ 0 → ⊥) → (x
 unfolding parse
 head_found x n ys at z e h =
     let q : at + 1 + 1 ≡ at + 2 = omega arith in
-    rw (ne_eqb x 0 z, ne_eqb x 255 e, le-ltb (length ys) n h, q, parse_skip n ys (at + 2) h)
+    rw (ne_eqb x 0 z, ne_eqb x 255 e, le-ltb (length ys) n h)
+    (ap (λ (p : Parse). found at (record { tag = x; body = take n ys }) p) (parse_skip n ys (at + 1 + 1) h ∙ ap (λ (a : ℕ). parse (a + n) 0 (drop n ys)) q))
 
 module _ (f : List ℕ) (i : ℕ) (h : i < length f) where
   pub rest_pad : get_or f i 0 ≡ 0 → rest f i ≡ rest f (i + 1)

@@ -23,7 +23,7 @@ loop-i-smaller c = let xs = c.args.part.now in
     omega (arith, (let within₁ : c.loop-i.i + c.run_length.result ≤ length c.args.part.now = omega (arith, (let rest_size₁ : let xs = c.args.part.now in length (take (length xs - c.loop-i.i) (drop c.loop-i.i xs)) ≡ length xs - c.loop-i.i = let xs = c.args.part.now in length-take-le (length xs - c.loop-i.i) (drop c.loop-i.i xs) (omega (arith, length-drop c.loop-i.i xs)) in rest_size₁), c.loop-i-test.true, c.run_length.ensures.0) in within₁), fitting_some (take (length xs - c.loop-i.i) (drop c.loop-i.i xs)) c.run_length.result c.run_length.ensures.1)
 
 pub loop-i-preserved : goal.loop-i-preserved
-loop-i-preserved c = feeding_more c.loop-i.invariant _ (omega arith) ((let within₁ : c.loop-i.i + c.run_length.result ≤ length c.args.part.now = omega (arith, (let rest_size₁ : let xs = c.args.part.now in length (take (length xs - c.loop-i.i) (drop c.loop-i.i xs)) ≡ length xs - c.loop-i.i = let xs = c.args.part.now in length-take-le (length xs - c.loop-i.i) (drop c.loop-i.i xs) (omega (arith, length-drop c.loop-i.i xs)) in rest_size₁), c.loop-i-test.true, c.run_length.ensures.0) in within₁)) _ _ _ _ _ c.take_run-q.auto.message.1.0 c.take_run-q.auto.message.1.1.0 c.take_run-q.auto.message.1.1.1.0 c.take_run-q.auto.message.1.1.1.1.0 c.take_run-q.ensures
+loop-i-preserved c = feeding_more c.loop-i.invariant _ (omega arith) ((let within₁ : c.loop-i.i + c.run_length.result ≤ length c.args.part.now = omega (arith, (let rest_size₁ : let xs = c.args.part.now in length (take (length xs - c.loop-i.i) (drop c.loop-i.i xs)) ≡ length xs - c.loop-i.i = let xs = c.args.part.now in length-take-le (length xs - c.loop-i.i) (drop c.loop-i.i xs) (omega (arith, length-drop c.loop-i.i xs)) in rest_size₁), c.loop-i-test.true, c.run_length.ensures.0) in within₁)) _ _ _ _ _ c.take_run-q.auto.message c.take_run-q.auto.verdicts c.take_run-q.auto.held c.take_run-q.auto.bytes c.take_run-q.ensures
 
 pub returns : goal.returns
 returns c = feeding_done c.loop-i.invariant (omega (arith, c.loop-i-test.false)) c.args.p c.tidied-q.ensures

@@ -37,7 +37,7 @@ returns-then-n-f c = let l : length c.args.f.now ≤ 4100 = c.if-f-gt4100.false 
     let z = c.if-n-eq0.false in
     let within : c.outermost-n.result ≤ length c.args.f.now = (outer c.args.f.now c.outermost-n.result c.outermost-n.ensures z).within in
     let part : List ℕ = take c.outermost-n.result c.args.f.now in
-    let after = c.choose_group.new.class.1.1.1.0 in
+    let after = c.choose_group.new.out in
     let end = c.end-1.given in
     let k : Chose (group_of (body 4) 0 (drop 3 part) none) c.args.class.now (replicate 4100 0) 0 (length part) (Laid end.0.0) after =
     subst (λ (x : Outcome). Chose (group_of (body 4) 0 (drop 3 part) none) c.args.class.now (replicate 4100 0) 0 (length part) x after) end.1 c.choose_group.ensures in
@@ -49,7 +49,7 @@ slice_bounds-sheet-end c = let l : length c.args.f.now ≤ 4100 = c.if-f-gt4100.
     let z = c.if-n-eq0.false in
     let within : c.outermost-n.result ≤ length c.args.f.now = (outer c.args.f.now c.outermost-n.result c.outermost-n.ensures z).within in
     let part : List ℕ = take c.outermost-n.result c.args.f.now in
-    let after = c.choose_group.new.class.1.1.1.0 in
+    let after = c.choose_group.new.out in
     let end = c.end-1.given in
     let k : Chose (group_of (body 4) 0 (drop 3 part) none) c.args.class.now (replicate 4100 0) 0 (length part) (Laid end.0.0) after =
     subst (λ (x : Outcome). Chose (group_of (body 4) 0 (drop 3 part) none) c.args.class.now (replicate 4100 0) 0 (length part) x after) end.1 c.choose_group.ensures in
@@ -60,18 +60,18 @@ slice_bounds-give-end c = let l : length c.args.f.now ≤ 4100 = c.if-f-gt4100.f
     let z = c.if-n-eq0.false in
     let within : c.outermost-n.result ≤ length c.args.f.now = (outer c.args.f.now c.outermost-n.result c.outermost-n.ensures z).within in
     let part : List ℕ = take c.outermost-n.result c.args.f.now in
-    let after = c.choose_group.new.class.1.1.1.0 in
+    let after = c.choose_group.new.out in
     let end = c.end-1.given in
     let k : Chose (group_of (body 4) 0 (drop 3 part) none) c.args.class.now (replicate 4100 0) 0 (length part) (Laid end.0.0) after =
     subst (λ (x : Outcome). Chose (group_of (body 4) 0 (drop 3 part) none) c.args.class.now (replicate 4100 0) 0 (length part) x after) end.1 c.choose_group.ensures in
-    sym (length-take-le end.0.0 after (omega (arith, l, within, length-take-le c.outermost-n.result c.args.f.now within, k.2, c.choose_group.auto.class.1.1.1.0, length-replicate {A = ℕ} 4100 0)))
+    sym (length-take-le end.0.0 after (omega (arith, l, within, length-take-le c.outermost-n.result c.args.f.now within, k.2, c.choose_group.auto.out, length-replicate {A = ℕ} 4100 0)))
 
 pub returns-in-Laid : goal.returns-in-Laid
 returns-in-Laid c = let l : length c.args.f.now ≤ 4100 = c.if-f-gt4100.false in
     let z = c.if-n-eq0.false in
     let within : c.outermost-n.result ≤ length c.args.f.now = (outer c.args.f.now c.outermost-n.result c.outermost-n.ensures z).within in
     let part : List ℕ = take c.outermost-n.result c.args.f.now in
-    let after = c.choose_group.new.class.1.1.1.0 in
+    let after = c.choose_group.new.out in
     let end = c.end-1.given in
     let k : Chose (group_of (body 4) 0 (drop 3 part) none) c.args.class.now (replicate 4100 0) 0 (length part) (Laid end.0.0) after =
     subst (λ (x : Outcome). Chose (group_of (body 4) 0 (drop 3 part) none) c.args.class.now (replicate 4100 0) 0 (length part) x after) end.1 c.choose_group.ensures in
@@ -84,7 +84,7 @@ returns-in-Refused c = let l : length c.args.f.now ≤ 4100 = c.if-f-gt4100.fals
     let z = c.if-n-eq0.false in
     let within : c.outermost-n.result ≤ length c.args.f.now = (outer c.args.f.now c.outermost-n.result c.outermost-n.ensures z).within in
     let part : List ℕ = take c.outermost-n.result c.args.f.now in
-    let after = c.choose_group.new.class.1.1.1.0 in
+    let after = c.choose_group.new.out in
     let bad = c.number-1.given in
     let k : Chose (group_of (body 4) 0 (drop 3 part) none) c.args.class.now (replicate 4100 0) 0 (length part) (Refused bad.0.0 bad.0.1.0) after =
     subst (λ (x : Outcome). Chose (group_of (body 4) 0 (drop 3 part) none) c.args.class.now (replicate 4100 0) 0 (length part) x after) bad.1 c.choose_group.ensures in

@@ -8,5 +8,5 @@ use Rattle.dhcpopt_captures.proofs.dhcpopt_captures_report.Goals as goal
 pub returns : goal.returns
 returns c = (
   c.report.ensures.0,
-  subst (λ (y : Progress). Reports y c.args.verdicts.now c.args.held.now c.args.bytes.now c.args.out.now c.report.result c.report.new.held.1.1.1.0) c.progress_of.ensures c.report.ensures.1,
+  subst (λ (y : Progress). Reports y c.args.verdicts.now c.args.held.now c.args.bytes.now c.args.out.now c.report.result c.report.new.out) c.progress_of.ensures c.report.ensures.1,
 )

@@ -16,9 +16,9 @@ pub slice_bounds-text-end : goal.slice_bounds-text-end
 slice_bounds-text-end c = omega (arith, c.list-n.ensures.0, simp length-append at (ap length c.list-n.ensures.1))
 
 pub slice_bounds-give-end : goal.slice_bounds-give-end
-slice_bounds-give-end c = sym (length-take-le c.list-n.result c.list-n.new.out.0 (array-share-prefix-text c.before))
+slice_bounds-give-end c = sym (length-take-le c.list-n.result c.list-n.new.out (array-share-prefix-text c.before))
 
 pub returns : goal.returns
 returns c = let m = c.args.m.now in
-    let t = text_of_lem (listing m) c.list-n.new.out.0 (replicate 16384 0) c.list-n.result c.list-n.ensures.0 c.list-n.ensures.1 in
+    let t = text_of_lem (listing m) c.list-n.new.out (replicate 16384 0) c.list-n.result c.list-n.ensures.0 c.list-n.ensures.1 in
     rw (listed_as m c.args.out.now) (rw t at c.give.ensures)

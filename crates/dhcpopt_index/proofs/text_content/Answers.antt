@@ -7,8 +7,8 @@ use Rattle.dhcpopt_index.proofs.text_content.Goals as goal
 
 pub returns-then-not-text_fits : goal.returns-then-not-text_fits
 unfolding value_fault_value meaning
-returns-then-not-text_fits c = rw (sym c.text_fits.ensures ∙ not-true _ c.if-not-text_fits.true) c.broken.ensures
+returns-then-not-text_fits c = rw (sym c.text_fits.ensures ∙ c.if-not-text_fits.true) c.broken.ensures
 
 pub returns : goal.returns
 unfolding value_fault_value meaning
-returns c = rw (sym c.text_fits.ensures ∙ not-false _ c.if-not-text_fits.false, ← c.text_len.ensures) c.of_part.ensures
+returns c = rw (sym c.text_fits.ensures ∙ c.if-not-text_fits.false, ← c.text_len.ensures) c.of_part.ensures

@@ -10,14 +10,8 @@ use Rattle.dhcpopt_profile.proofs.dhcpopt_profile.Goals as goal
 long : length (replicate {A = ℕ} 256 0) ≡ 256
 long = length-replicate {A = ℕ} 256 0
 
-pub slice_bounds-judged-end : goal.slice_bounds-judged-end
-slice_bounds-judged-end c = sym (is_built c.args.m.now _ _ long _ c.build_anew-g.ensures _ c.enum_told-1.given.1).numbers
-
-pub judged-requires : goal.judged-requires
-judged-requires c = is_built c.args.m.now _ _ long _ c.build_anew-g.ensures _ c.enum_told-1.given.1
-
 pub returns-in-Refused : goal.returns-in-Refused
 returns-in-Refused c = c.refused.ensures ∙ profile_refused c.args.m.now _ _ long _ c.build_anew-g.ensures _ _ c.g-1.given.1
 
 pub returns-in-Bytes : goal.returns-in-Bytes
-returns-in-Bytes c = profile_built c.args.m.now _ _ long _ c.build_anew-g.ensures _ c.enum_told-1.given.1 _ c.judged.ensures
+returns-in-Bytes c = profile_built c.args.m.now _ _ long _ c.build_anew-g.ensures _ c.in-Bytes.is _ c.judged.ensures

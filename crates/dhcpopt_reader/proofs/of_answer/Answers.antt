@@ -17,7 +17,7 @@ pub of_found-requires : goal.of_found-requires
 of_found-requires c = near_of c.a-in-Found-1.given.1 c.requires
 
 pub returns-in-Absent : goal.returns-in-Absent
-returns-in-Absent c = c.of_refusal.ensures ∙ plain_of c.enum_told-1.given.1
+returns-in-Absent c = c.of_refusal.ensures ∙ plain_of c.in-Absent.is
 
 pub returns-in-Refused : goal.returns-in-Refused
 returns-in-Refused c = c.of_refusal-in-Refused.ensures ∙ plain_of c.a-1.given.1

@@ -23,9 +23,6 @@ loop-field-init c = left_all _ _ _
 pub shape_of-out-in_default : goal.shape_of-out-in_default
 shape_of-out-in_default c = c.loop-field.invariant.same
 
-pub returns-in_default : goal.returns-in_default
-returns-in_default c = left_none c.loop-field.invariant (joined_none c.args.over c.args.m.now c.loop-field.from c.args.code (none_left c.args.over c.args.m.now c.loop-field.from (sym c.enum_told-1.given.1 ∙ c.next_option.ensures)))
-
 pub overflow_add-start : goal.overflow_add-start
 overflow_add-start c = let x = (let turn₁ : Next c.args.over c.args.m.now c.loop-field.from c.field-1.given.0.0 c.field-1.given.0.1.0 c.field-1.given.0.1.1.0 c.field-1.given.0.1.1.1.0 = next c.args.over c.args.m.now c.loop-field.from _ _ _ _ (sym c.field-1.given.1 ∙ c.next_option.ensures) in turn₁) in omega (arith, x.within, c.base.ensures.0)
 

@@ -15,10 +15,10 @@ overflow_add-result c = let tag = c.tag-1.given in
     omega (arith, outer_room f tag.0.0 tag.0.1.0 e)
 
 pub returns-in-End : goal.returns-in-End
-returns-in-End c = sym (outer_by c.args.f.now End (sym c.enum_told-1.given.1 ∙ c.next_record.ensures))
+returns-in-End c = sym (outer_by c.args.f.now End (sym c.in-End.is ∙ c.next_record.ensures))
 
 pub returns-in-Cut : goal.returns-in-Cut
-returns-in-Cut c = sym (outer_by c.args.f.now Cut (sym c.enum_told-in-Cut-1.given.1 ∙ c.next_record.ensures))
+returns-in-Cut c = sym (outer_by c.args.f.now Cut (sym c.in-Cut.is ∙ c.next_record.ensures))
 
 pub returns-then-tag-eq0 : goal.returns-then-tag-eq0
 returns-then-tag-eq0 c = let tag = c.tag-1.given in

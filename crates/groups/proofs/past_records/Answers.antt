@@ -18,12 +18,12 @@ loop-tag-init c = refl
 pub returns-in-End : goal.returns-in-End
 unfolding past_records_value
 returns-in-End c = let s = c.args.s.now in
-    sym (sym c.loop-tag.invariant ∙ past_by s c.loop-tag.i End (sym c.enum_told-1.given.1 ∙ c.next_record.ensures))
+    sym (sym c.loop-tag.invariant ∙ past_by s c.loop-tag.i End (sym c.in-End.is ∙ c.next_record.ensures))
 
 pub returns-in-Cut : goal.returns-in-Cut
 unfolding past_records_value
 returns-in-Cut c = let s = c.args.s.now in
-    sym (sym c.loop-tag.invariant ∙ past_by s c.loop-tag.i Cut (sym c.enum_told-in-Cut-1.given.1 ∙ c.next_record.ensures))
+    sym (sym c.loop-tag.invariant ∙ past_by s c.loop-tag.i Cut (sym c.in-Cut.is ∙ c.next_record.ensures))
 
 pub returns-then-tag-eq0 : goal.returns-then-tag-eq0
 returns-then-tag-eq0 c = let tag = c.tag-1.given in

@@ -29,4 +29,4 @@ pub store-requires : goal.store-requires
 store-requires c = (last_size c.args.m.now c.args.index.now (sym c.unfit-number.ensures ∙ c.if-number-ne0.false) c.if-count-ne256.false c.fill-s.result c.fill-s.new.index c.fill-s.ensures c.if-s-ne0.false, c.if-count-ne256.false)
 
 pub returns : goal.returns
-returns c = build_done c.args.m.now c.args.index.now (sym c.unfit-number.ensures ∙ c.if-number-ne0.false) c.if-count-ne256.false c.fill-s.result c.fill-s.new.index c.fill-s.ensures c.if-s-ne0.false c.store.new.index.0 c.store.ensures
+returns c = build_done c.args.m.now c.args.index.now (sym c.unfit-number.ensures ∙ c.if-number-ne0.false) c.if-count-ne256.false c.fill-s.result c.fill-s.new.index c.fill-s.ensures c.if-s-ne0.false c.store.new.index c.store.ensures

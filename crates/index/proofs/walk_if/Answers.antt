@@ -12,7 +12,7 @@ use Rattle.index.proofs.Steps.{notes_none, start_low}
 use Rattle.index.proofs.walk_if.Goals as goal
 
 pub returns-then-not-active : goal.returns-then-not-active
-returns-then-not-active c = rw (c.onward.ensures, sym c.active.ensures ∙ not-true _ c.if-not-active.true) (c.requires.2, notes_none c.args.index.now)
+returns-then-not-active c = rw (c.onward.ensures, sym c.active.ensures ∙ c.if-not-active.true) (c.requires.2, notes_none c.args.index.now)
 
 pub walk-requires : goal.walk-requires
 walk-requires c = let fd = field_of c.args.field in
@@ -20,4 +20,4 @@ walk-requires c = let fd = field_of c.args.field in
 
 pub returns : goal.returns
 returns c = let n = rw c.field_bytes.ensures at (c.walk.ensures.notes (field_of c.args.field) c.requires.1 (sym c.base.ensures.0)) in
-    rw (sym c.active.ensures ∙ not-false _ c.if-not-active.false) (c.walk.ensures.marks_kept, n)
+    rw (sym c.active.ensures ∙ c.if-not-active.false) (c.walk.ensures.marks_kept, n)

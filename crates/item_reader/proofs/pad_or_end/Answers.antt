@@ -4,10 +4,10 @@ use borrow.Author.Tests.{eq-eqb, ne_eqb, not-true, not-false}
 use Rattle.item_reader.proofs.pad_or_end.Goals as goal
 
 pub returns-then-not-marked : goal.returns-then-not-marked
-returns-then-not-marked c = rw (not-true c.args.marked c.if-not-marked.true) refl
+returns-then-not-marked c = rw c.if-not-marked.true refl
 
 pub returns-then-c-eq0 : goal.returns-then-c-eq0
-returns-then-c-eq0 c = rw (not-false c.args.marked c.if-not-marked.false, eq-eqb _ 0 c.if-c-eq0.true) refl
+returns-then-c-eq0 c = rw (c.if-not-marked.false, eq-eqb _ 0 c.if-c-eq0.true) refl
 
 pub returns : goal.returns
-returns c = rw (not-false c.args.marked c.if-not-marked.false, ne_eqb _ 0 c.if-c-eq0.false) refl
+returns c = rw (c.if-not-marked.false, ne_eqb _ 0 c.if-c-eq0.false) refl

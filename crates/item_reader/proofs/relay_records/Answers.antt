@@ -18,4 +18,4 @@ put_items-given-requires c = (no_past c.args.f.now c.if-f-eq0.false c.walk-w.res
 
 pub returns : goal.returns
 returns c = rw (c.id_of.ensures, c.id_of-2.ensures)
-    (reads_given c.args.f.now c.if-f-eq0.false c.walk-w.result c.walk-w.ensures c.args.out.now c.if-w.false c.if-room-w.false c.put_items-given.result c.put_items-given.new.out.1.0 c.put_items-given.ensures)
+    (reads_given c.args.f.now c.if-f-eq0.false c.walk-w.result c.walk-w.ensures c.args.out.now c.if-w.false c.if-room-w.false c.put_items-given.result c.put_items-given.new.out c.put_items-given.ensures)

@@ -14,4 +14,4 @@ pub put_items-requires : goal.put_items-requires
 put_items-requires c = (no_past c.args.f.now c.items-w.result c.items-w.ensures c.if-w.false, omega (arith, c.if-n-w.false, laid_size c.args.f.now c.items-w.result c.items-w.ensures c.if-w.false))
 
 pub returns : goal.returns
-returns c = fills_given c.args.f.now c.items-w.result c.items-w.ensures c.args.out.now c.if-w.false c.if-n-w.false c.put_items.result c.put_items.new.out.1.0 c.put_items.ensures
+returns c = fills_given c.args.f.now c.items-w.result c.items-w.ensures c.args.out.now c.if-w.false c.if-n-w.false c.put_items.result c.put_items.new.out c.put_items.ensures

@@ -16,10 +16,10 @@ pub loop-tag-init : goal.loop-tag-init
 loop-tag-init c = begins c.args.marked c.args.s.now
 
 pub returns-in-End : goal.returns-in-End
-returns-in-End c = ends c.loop-tag.invariant (sym c.enum_told-1.given.1 ∙ c.next_record.ensures)
+returns-in-End c = ends c.loop-tag.invariant (sym c.in-End.is ∙ c.next_record.ensures)
 
 pub returns-in-Cut : goal.returns-in-Cut
-returns-in-Cut c = c.faulty.ensures ∙ cut_off c.loop-tag.invariant (sym c.enum_told-in-Cut-1.given.1 ∙ c.next_record.ensures)
+returns-in-Cut c = c.faulty.ensures ∙ cut_off c.loop-tag.invariant (sym c.in-Cut.is ∙ c.next_record.ensures)
 
 pub returns-then-number-ne0 : goal.returns-then-number-ne0
 returns-then-number-ne0 c = c.faulty-then-number-ne0.ensures ∙ refuses c.loop-tag.invariant (c.tag-1.given.0.0) (c.tag-1.given.0.1.0) ((let is_record₁ : Record (c.tag-1.given.0.0) (c.tag-1.given.0.1.0) ≡ step_of (records_from c.loop-tag.at 0 (drop c.loop-tag.at (c.args.s.now))) = sym c.tag-1.given.1 ∙ c.next_record.ensures in is_record₁)) c.broken_rule-number.result c.broken_rule-number.ensures c.if-number-ne0.true

@@ -23,4 +23,4 @@ put_items-size-requires c = (room_in c.args.out.now ((let right₁ : Sound false
 
 pub returns : goal.returns
 returns c = fills_given false c.args.s.now c.judge-j.result c.judge-j.ensures c.args.out.now _ (relay_given_lem c.args.s.now c.args.out.now (omega (arith, c.if-s-gt4096.false)) c.if-s-eq0.false) ((let right₁ : Sound false c.args.s.now c.judge-j.result = is_sound false _ _ c.judge-j.ensures c.if-j-ne0.false in right₁)) (sym c.too_small.ensures ∙ c.if-too_small.false)
-    c.put_items-size.result c.put_items-size.new.out.0 c.put_items-size.ensures
+    c.put_items-size.result c.put_items-size.new.out c.put_items-size.ensures

@@ -20,4 +20,4 @@ put_items-requires c = (room_in c.args.out.now ((let right₁ : Sound true c.arg
 
 pub returns : goal.returns
 returns c = fills_given true c.args.s.now c.judge-j.result c.judge-j.ensures c.args.out.now _ (vendor_given c.args.s.now c.args.out.now (omega (arith, c.if-s-gt4096.false))) ((let right₁ : Sound true c.args.s.now c.judge-j.result = is_sound true _ _ c.judge-j.ensures c.if-j-ne0.false in right₁)) (sym c.too_small.ensures ∙ c.if-too_small.false)
-    c.put_items.result c.put_items.new.out.0 c.put_items.ensures
+    c.put_items.result c.put_items.new.out c.put_items.ensures

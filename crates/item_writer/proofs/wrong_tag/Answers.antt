@@ -11,10 +11,10 @@ or-none true = refl
 or-none false = refl
 
 pub returns-then-not-marked : goal.returns-then-not-marked
-returns-then-not-marked c = rw (not-true c.args.marked c.if-not-marked.true) refl
+returns-then-not-marked c = rw c.if-not-marked.true refl
 
 pub returns-then-tag-eq0 : goal.returns-then-tag-eq0
-returns-then-tag-eq0 c = rw (not-false c.args.marked c.if-not-marked.false, eq-eqb c.args.tag 0 c.if-tag-eq0.true) refl
+returns-then-tag-eq0 c = rw (c.if-not-marked.false, eq-eqb c.args.tag 0 c.if-tag-eq0.true) refl
 
 pub returns : goal.returns
-returns c = rw (not-false c.args.marked c.if-not-marked.false, ne_eqb c.args.tag 0 c.if-tag-eq0.false) (or-none (eqb c.args.tag 255))
+returns c = rw (c.if-not-marked.false, ne_eqb c.args.tag 0 c.if-tag-eq0.false) (or-none (eqb c.args.tag 255))

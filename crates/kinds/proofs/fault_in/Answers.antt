@@ -8,8 +8,8 @@ use Rattle.kinds.proofs.fault_in.Goals as goal
 
 pub returns-then-not-length_fits : goal.returns-then-not-length_fits
 unfolding fault_numbered
-returns-then-not-length_fits c = rw (← fault_rules (row_at c.args.row) c.args.d.now, sym c.length_fits.ensures ∙ not-true _ c.if-not-length_fits.true)
+returns-then-not-length_fits c = rw (← fault_rules (row_at c.args.row) c.args.d.now, sym c.length_fits.ensures ∙ c.if-not-length_fits.true)
 
 pub returns : goal.returns
 unfolding fault_numbered
-returns c = rw (← fault_rules (row_at c.args.row) c.args.d.now, sym c.length_fits.ensures ∙ not-false _ c.if-not-length_fits.false) c.value_fault.ensures
+returns c = rw (← fault_rules (row_at c.args.row) c.args.d.now, sym c.length_fits.ensures ∙ c.if-not-length_fits.false) c.value_fault.ensures

@@ -17,14 +17,14 @@ bounds-t-i c = omega (arith, c.loop-i.invariant.0, trimmed_within c.args.t.now)
 
 pub returns-then-not-from_to : goal.returns-then-not-from_to
 returns-then-not-from_to c = let t = c.args.t.now in
-    sym (text_stop t c.text_len-n.result c.loop-i.i (omega arith) (omega (arith, c.loop-i.invariant.0, trimmed_within t)) (sym c.from_to.ensures ∙ not-true _ c.if-not-from_to.true)) ∙ c.loop-i.invariant.1.1
+    sym (text_stop t c.text_len-n.result c.loop-i.i (omega arith) (omega (arith, c.loop-i.invariant.0, trimmed_within t)) (sym c.from_to.ensures ∙ c.if-not-from_to.true)) ∙ c.loop-i.invariant.1.1
 
 pub loop-i-preserved : goal.loop-i-preserved
 loop-i-preserved c = let t = c.args.t.now in (
   c.loop-i.invariant.0,
   (
     omega arith,
-    sym (text_next t c.text_len-n.result c.loop-i.i (omega arith) (omega (arith, c.loop-i.invariant.0, trimmed_within t)) (sym c.from_to.ensures ∙ not-false _ c.if-not-from_to.false)) ∙ c.loop-i.invariant.1.1,
+    sym (text_next t c.text_len-n.result c.loop-i.i (omega arith) (omega (arith, c.loop-i.invariant.0, trimmed_within t)) (sym c.from_to.ensures ∙ c.if-not-from_to.false)) ∙ c.loop-i.invariant.1.1,
   ),
 )
 

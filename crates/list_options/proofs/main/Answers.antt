@@ -10,4 +10,4 @@ pub slice_bounds-text-end : goal.slice_bounds-text-end
 slice_bounds-text-end c = omega (arith, c.listed-size.ensures.0, simp length-append at (ap length c.listed-size.ensures.1))
 
 pub slice_bounds-write_all-end : goal.slice_bounds-write_all-end
-slice_bounds-write_all-end c = sym (length-take-le c.listed-size.result c.listed-size.new.text.1.0 (array-share-prefix-text c.before))
+slice_bounds-write_all-end c = sym (length-take-le c.listed-size.result c.listed-size.new.text (array-share-prefix-text c.before))

@@ -12,10 +12,10 @@ name_of : {x y : Field} → x ≡ y → field_name (field_of y) ≡ field_name (
 name_of e = sym (ap (λ (f : Field). field_name (field_of f)) e)
 
 pub returns-in-Options : goal.returns-in-Options
-returns-in-Options c = puts_as (name_of c.enum_told-1.given.1) c.put_word.ensures
+returns-in-Options c = puts_as (name_of c.in-Options.is) c.put_word.ensures
 
 pub returns-in-File : goal.returns-in-File
-returns-in-File c = puts_as (name_of c.enum_told-in-File-1.given.1) c.put_word-in-File.ensures
+returns-in-File c = puts_as (name_of c.in-File.is) c.put_word-in-File.ensures
 
 pub returns-in-Sname : goal.returns-in-Sname
-returns-in-Sname c = puts_as (name_of c.enum_told-in-Sname-1.given.1) c.put_word-in-Sname.ensures
+returns-in-Sname c = puts_as (name_of c.in-Sname.is) c.put_word-in-Sname.ensures

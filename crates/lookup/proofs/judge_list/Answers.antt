@@ -11,13 +11,13 @@ use Rattle.lookup.proofs.judge_list.Goals as goal
 
 pub returns-then-not-length_fits : goal.returns-then-not-length_fits
 unfolding judged_of
-returns-then-not-length_fits c = rw (sym c.length_fits.ensures ∙ not-true _ c.if-not-length_fits.true)
+returns-then-not-length_fits c = rw (sym c.length_fits.ensures ∙ c.if-not-length_fits.true)
 
 pub returns-then-number-ne0 : goal.returns-then-number-ne0
 unfolding judged_of
-returns-then-number-ne0 c = rw (sym c.length_fits.ensures ∙ not-false _ c.if-not-length_fits.false, ← c.list_fault-number.ensures) (ap asked.known (broken_by_lem c.list_fault-number.result _ c.if-number-ne0.true))
+returns-then-number-ne0 c = rw (sym c.length_fits.ensures ∙ c.if-not-length_fits.false, ← c.list_fault-number.ensures) (ap asked.known (broken_by_lem c.list_fault-number.result _ c.if-number-ne0.true))
 
 pub returns : goal.returns
 unfolding judged_of
-returns c = rw (sym c.length_fits.ensures ∙ not-false _ c.if-not-length_fits.false, sym c.list_fault-number.ensures ∙ c.if-number-ne0.false)
+returns c = rw (sym c.length_fits.ensures ∙ c.if-not-length_fits.false, sym c.list_fault-number.ensures ∙ c.if-number-ne0.false)
     (c.joined_value.ensures ∙ ap (λ (x : ℕ). asked.known (meaning_of (kind_at x) c.args.n c.args.d.now)) c.kind_of.ensures)

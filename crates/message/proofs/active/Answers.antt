@@ -3,7 +3,7 @@ use borrow.Author.Rules.{rules}
 use Rattle.message.proofs.active.Goals as goal
 
 pub returns-in-File : goal.returns-in-File
-returns-in-File c = rw c.enum_told-in-File-1.given.1 c.file_on.ensures
+returns-in-File c = rw c.in-File.is c.file_on.ensures
 
 pub returns-in-Sname : goal.returns-in-Sname
-returns-in-Sname c = rw c.enum_told-in-Sname-1.given.1 c.sname_on.ensures
+returns-in-Sname c = rw c.in-Sname.is c.sname_on.ensures

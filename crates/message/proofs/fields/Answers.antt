@@ -28,24 +28,24 @@ walk-s-requires c = let y = c.loop-s.invariant in
 
 pub returns-then-s-ne0 : goal.returns-then-s-ne0
 returns-then-s-ne0 c = let y = c.loop-s.invariant in
-    turning_refused c.args.watched.now c.args.marks c.args.want c.args.first c.args.m.now y c.walk-s.result c.walk-s.new.set.1.0 c.walk-s.ensures c.if-s-ne0.true
+    turning_refused c.args.watched.now c.args.marks c.args.want c.args.first c.args.m.now y c.walk-s.result c.walk-s.new.set c.walk-s.ensures c.if-s-ne0.true
 
 pub returns-then-turn-eq3 : goal.returns-then-turn-eq3
 returns-then-turn-eq3 c = let y = c.loop-s.invariant in
-    turning_ends c.args.watched.now c.args.marks c.args.want c.args.first c.args.m.now y c.walk-s.result c.walk-s.new.set.1.0 c.walk-s.ensures c.if-s-ne0.false c.next_field-turn.result c.next_field-turn.ensures c.if-turn-eq3.true
+    turning_ends c.args.watched.now c.args.marks c.args.want c.args.first c.args.m.now y c.walk-s.result c.walk-s.new.set c.walk-s.ensures c.if-s-ne0.false c.next_field-turn.result c.next_field-turn.ensures c.if-turn-eq3.true
 
 pub loop-s-smaller-then-turn-eq1 : goal.loop-s-smaller-then-turn-eq1
 loop-s-smaller-then-turn-eq1 c = let y = c.loop-s.invariant in
-    omega (arith, turning_less c.args.watched.now c.args.marks c.args.want c.args.first c.args.m.now y c.walk-s.result c.walk-s.new.set.1.0 c.walk-s.ensures c.if-s-ne0.false c.next_field-turn.result c.next_field-turn.ensures c.if-turn-eq3.false, c.if-turn-eq1.true)
+    omega (arith, turning_less c.args.watched.now c.args.marks c.args.want c.args.first c.args.m.now y c.walk-s.result c.walk-s.new.set c.walk-s.ensures c.if-s-ne0.false c.next_field-turn.result c.next_field-turn.ensures c.if-turn-eq3.false, c.if-turn-eq1.true)
 
 pub loop-s-preserved-then-turn-eq1 : goal.loop-s-preserved-then-turn-eq1
 loop-s-preserved-then-turn-eq1 c = let y = c.loop-s.invariant in
-    turning_file c.args.watched.now c.args.marks c.args.want c.args.first c.args.m.now y c.walk-s.result c.walk-s.new.set.1.0 c.walk-s.ensures c.if-s-ne0.false c.next_field-turn.result c.next_field-turn.ensures c.requires.0 c.requires.4 c.if-turn-eq3.false c.if-turn-eq1.true
+    turning_file c.args.watched.now c.args.marks c.args.want c.args.first c.args.m.now y c.walk-s.result c.walk-s.new.set c.walk-s.ensures c.if-s-ne0.false c.next_field-turn.result c.next_field-turn.ensures c.requires.0 c.requires.4 c.if-turn-eq3.false c.if-turn-eq1.true
 
 pub loop-s-smaller : goal.loop-s-smaller
 loop-s-smaller c = let y = c.loop-s.invariant in
-    omega (arith, turning_less c.args.watched.now c.args.marks c.args.want c.args.first c.args.m.now y c.walk-s.result c.walk-s.new.set.1.0 c.walk-s.ensures c.if-s-ne0.false c.next_field-turn.result c.next_field-turn.ensures c.if-turn-eq3.false, turning_two c.args.watched.now c.args.marks c.args.want c.args.first c.args.m.now y c.walk-s.result c.walk-s.new.set.1.0 c.walk-s.ensures c.if-s-ne0.false c.next_field-turn.result c.next_field-turn.ensures c.if-turn-eq3.false c.if-turn-eq1.false)
+    omega (arith, turning_less c.args.watched.now c.args.marks c.args.want c.args.first c.args.m.now y c.walk-s.result c.walk-s.new.set c.walk-s.ensures c.if-s-ne0.false c.next_field-turn.result c.next_field-turn.ensures c.if-turn-eq3.false, turning_two c.args.watched.now c.args.marks c.args.want c.args.first c.args.m.now y c.walk-s.result c.walk-s.new.set c.walk-s.ensures c.if-s-ne0.false c.next_field-turn.result c.next_field-turn.ensures c.if-turn-eq3.false c.if-turn-eq1.false)
 
 pub loop-s-preserved : goal.loop-s-preserved
 loop-s-preserved c = let y = c.loop-s.invariant in
-    turning_sname c.args.watched.now c.args.marks c.args.want c.args.first c.args.m.now y c.walk-s.result c.walk-s.new.set.1.0 c.walk-s.ensures c.if-s-ne0.false c.next_field-turn.result c.next_field-turn.ensures c.requires.0 c.requires.4 c.if-turn-eq3.false c.if-turn-eq1.false
+    turning_sname c.args.watched.now c.args.marks c.args.want c.args.first c.args.m.now y c.walk-s.result c.walk-s.new.set c.walk-s.ensures c.if-s-ne0.false c.next_field-turn.result c.next_field-turn.ensures c.requires.0 c.requires.4 c.if-turn-eq3.false c.if-turn-eq1.false

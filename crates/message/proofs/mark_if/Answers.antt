@@ -11,7 +11,7 @@ use Rattle.message.proofs.mark_if.Goals as goal
 
 pub returns-then-not-marks : goal.returns-then-not-marks
 returns-then-not-marks c = let z : c.args.count ≡ c.args.count + 0 = omega arith in
-    rw (not-true c.args.marks c.if-not-marks.true) (z, refl)
+    rw c.if-not-marks.true (z, refl)
 
 pub returns : goal.returns
-returns c = rw (not-false c.args.marks c.if-not-marks.false) (refl, rw (c.word-k.ensures.0, one_shl (c.args.c % 64) (omega arith)) refl)
+returns c = rw c.if-not-marks.false (refl, rw (c.word-k.ensures.0, one_shl (c.args.c % 64) (omega arith)) refl)

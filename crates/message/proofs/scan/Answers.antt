@@ -27,4 +27,4 @@ pub returns : goal.returns
 returns c = let g = rw (c.word-k.ensures.0, one_shl (c.args.want % 64) (omega arith)) at c.fields.ensures in
     tells_walked c.args.marks c.args.want c.args.m.now c.args.set.now (eqb c.args.low 1) c.requires.1 (all_bytes c.args.m.now (λ i. (c.shared_slice_known-1.given i).fits)) ((let fit₁ : cond (eqb c.args.low 1) 0 (unfit_of c.args.m.now) ≡ 0 = sym c.unfit_message-number.ensures ∙ c.if-number-ne0.false in fit₁))
     c.args.low c.first_place-first.result c.requires.0 c.first_place-first.ensures ((let byte_in₁ : c.args.want < 256 = search rules in byte_in₁))
-    c.fields.result c.fields.new.set.1.0 g c.told.result c.told.ensures
+    c.fields.result c.fields.new.set g c.told.result c.told.ensures

@@ -11,7 +11,7 @@ pub returns-then-m-gt1472 : goal.returns-then-m-gt1472
 returns-then-m-gt1472 c = rw (le-ltb _ _ c.if-m-lt240.false, lt-ltb _ _ c.if-m-gt1472.true)
 
 pub returns-then-not-cookie_ok : goal.returns-then-not-cookie_ok
-returns-then-not-cookie_ok c = rw (le-ltb _ _ c.if-m-lt240.false, le-ltb _ _ c.if-m-gt1472.false, sym c.cookie_ok.ensures ∙ not-true c.cookie_ok.result c.if-not-cookie_ok.true)
+returns-then-not-cookie_ok c = rw (le-ltb _ _ c.if-m-lt240.false, le-ltb _ _ c.if-m-gt1472.false, sym c.cookie_ok.ensures ∙ c.if-not-cookie_ok.true)
 
 pub returns : goal.returns
-returns c = rw (le-ltb _ _ c.if-m-lt240.false, le-ltb _ _ c.if-m-gt1472.false, sym c.cookie_ok.ensures ∙ not-false c.cookie_ok.result c.if-not-cookie_ok.false)
+returns c = rw (le-ltb _ _ c.if-m-lt240.false, le-ltb _ _ c.if-m-gt1472.false, sym c.cookie_ok.ensures ∙ c.if-not-cookie_ok.false)

@@ -70,6 +70,6 @@ loop-i-preserved c = record {
   stands =
       option_stands c.args.over c.args.m.now c.loop-i.invariant.stands c.if-c-eq0.false c.if-c.false c.wide.result _ c.wide.ensures.0 refl;
   still =
-      still_on c.loop-i.invariant.still ((cond (eqb c.args.code (get_or c.args.m.now c.loop-i.i 0)) (take c.wide.result (drop (c.loop-i.i + 2) c.args.m.now)) [])) (joined_at c.args.over c.args.m.now (c.loop-i.i + 2 + c.wide.result) c.args.code) ((let splits₁ : joined_at c.args.over c.args.m.now c.loop-i.i c.args.code ≡ (cond (eqb c.args.code (get_or c.args.m.now c.loop-i.i 0)) (take c.wide.result (drop (c.loop-i.i + 2) c.args.m.now)) []) ++ joined_at c.args.over c.args.m.now (c.loop-i.i + 2 + c.wide.result) c.args.code = let y = c.loop-i.invariant.stands in joined_more c.args.over c.args.m.now c.loop-i.i (c.loop-i.i + 2 + c.wide.result) c.args.code (option_at c.args.over c.args.m.now y c.if-c-eq0.false c.if-c.false c.wide.result _ c.wide.ensures.0 refl) (option_left c.args.over c.args.m.now y c.if-c-eq0.false c.if-c.false c.wide.result _ c.wide.ensures.0 refl) in splits₁)) c.put_piece-o.auto.out.1.0
+      still_on c.loop-i.invariant.still ((cond (eqb c.args.code (get_or c.args.m.now c.loop-i.i 0)) (take c.wide.result (drop (c.loop-i.i + 2) c.args.m.now)) [])) (joined_at c.args.over c.args.m.now (c.loop-i.i + 2 + c.wide.result) c.args.code) ((let splits₁ : joined_at c.args.over c.args.m.now c.loop-i.i c.args.code ≡ (cond (eqb c.args.code (get_or c.args.m.now c.loop-i.i 0)) (take c.wide.result (drop (c.loop-i.i + 2) c.args.m.now)) []) ++ joined_at c.args.over c.args.m.now (c.loop-i.i + 2 + c.wide.result) c.args.code = let y = c.loop-i.invariant.stands in joined_more c.args.over c.args.m.now c.loop-i.i (c.loop-i.i + 2 + c.wide.result) c.args.code (option_at c.args.over c.args.m.now y c.if-c-eq0.false c.if-c.false c.wide.result _ c.wide.ensures.0 refl) (option_left c.args.over c.args.m.now y c.if-c-eq0.false c.if-c.false c.wide.result _ c.wide.ensures.0 refl) in splits₁)) c.put_piece-o.auto.out
       (rw (part_is c.args.m.now c.loop-i.i c.wide.result) at c.put_piece-o.ensures);
 }

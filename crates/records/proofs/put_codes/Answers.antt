@@ -59,7 +59,7 @@ pub loop-table-preserved-then-table-wide-eq1 : goal.loop-table-preserved-then-ta
 loop-table-preserved-then-table-wide-eq1 c = let n = c.wide-then-table-wide-eq1.result in
     let q = c.wide-then-table-wide-eq1.ensures.0 in
     rw c.put_once-o.ensures.1
-    (putting_on c.loop-table.invariant (met c.before.before.before.before.before.before.before.before.before.before.before.before.before.before ((let no_pad₁ : get_or (m c.before.before.before.before.before.before.before.before.before.before.before.before.before.before) (i c.before.before.before.before.before.before.before.before.before.before.before.before.before.before) 0 ≡ 0 → ⊥ = λ q. c.loop-table.invariant.tells.no_pad (ap (λ (k : ℕ). get_or c.loop-table.table k 0) (sym q) ∙ (let one₁ : get_or c.loop-table.table (get_or (m c.before.before.before.before.before.before.before.before.before.before.before.before.before.before) (i c.before.before.before.before.before.before.before.before.before.before.before.before.before.before) 0) 0 ≡ 1 = rw c.wide.ensures.0 at c.if-table-wide-eq1.true in one₁)) in no_pad₁)) ((let no_end₁ : get_or (m c.before.before.before.before.before.before.before.before.before.before.before.before.before.before) (i c.before.before.before.before.before.before.before.before.before.before.before.before.before.before) 0 ≡ 255 → ⊥ = λ q. c.loop-table.invariant.tells.no_end (ap (λ (k : ℕ). get_or c.loop-table.table k 0) (sym q) ∙ (let one₁ : get_or c.loop-table.table (get_or (m c.before.before.before.before.before.before.before.before.before.before.before.before.before.before) (i c.before.before.before.before.before.before.before.before.before.before.before.before.before.before) 0) 0 ≡ 1 = rw c.wide.ensures.0 at c.if-table-wide-eq1.true in one₁)) in no_end₁)) n q) (after c.before.before.before.before.before.before.before.before.before.before.before.before.before.before ((let no_pad₁ : get_or (m c.before.before.before.before.before.before.before.before.before.before.before.before.before.before) (i c.before.before.before.before.before.before.before.before.before.before.before.before.before.before) 0 ≡ 0 → ⊥ = λ q. c.loop-table.invariant.tells.no_pad (ap (λ (k : ℕ). get_or c.loop-table.table k 0) (sym q) ∙ (let one₁ : get_or c.loop-table.table (get_or (m c.before.before.before.before.before.before.before.before.before.before.before.before.before.before) (i c.before.before.before.before.before.before.before.before.before.before.before.before.before.before) 0) 0 ≡ 1 = rw c.wide.ensures.0 at c.if-table-wide-eq1.true in one₁)) in no_pad₁)) ((let no_end₁ : get_or (m c.before.before.before.before.before.before.before.before.before.before.before.before.before.before) (i c.before.before.before.before.before.before.before.before.before.before.before.before.before.before) 0 ≡ 255 → ⊥ = λ q. c.loop-table.invariant.tells.no_end (ap (λ (k : ℕ). get_or c.loop-table.table k 0) (sym q) ∙ (let one₁ : get_or c.loop-table.table (get_or (m c.before.before.before.before.before.before.before.before.before.before.before.before.before.before) (i c.before.before.before.before.before.before.before.before.before.before.before.before.before.before) 0) 0 ≡ 1 = rw c.wide.ensures.0 at c.if-table-wide-eq1.true in one₁)) in no_end₁)) n q) (splits c.before.before.before.before.before.before.before.before.before.before.before.before.before.before ((let no_pad₁ : get_or (m c.before.before.before.before.before.before.before.before.before.before.before.before.before.before) (i c.before.before.before.before.before.before.before.before.before.before.before.before.before.before) 0 ≡ 0 → ⊥ = λ q. c.loop-table.invariant.tells.no_pad (ap (λ (k : ℕ). get_or c.loop-table.table k 0) (sym q) ∙ (let one₁ : get_or c.loop-table.table (get_or (m c.before.before.before.before.before.before.before.before.before.before.before.before.before.before) (i c.before.before.before.before.before.before.before.before.before.before.before.before.before.before) 0) 0 ≡ 1 = rw c.wide.ensures.0 at c.if-table-wide-eq1.true in one₁)) in no_pad₁)) ((let no_end₁ : get_or (m c.before.before.before.before.before.before.before.before.before.before.before.before.before.before) (i c.before.before.before.before.before.before.before.before.before.before.before.before.before.before) 0 ≡ 255 → ⊥ = λ q. c.loop-table.invariant.tells.no_end (ap (λ (k : ℕ). get_or c.loop-table.table k 0) (sym q) ∙ (let one₁ : get_or c.loop-table.table (get_or (m c.before.before.before.before.before.before.before.before.before.before.before.before.before.before) (i c.before.before.before.before.before.before.before.before.before.before.before.before.before.before) 0) 0 ≡ 1 = rw c.wide.ensures.0 at c.if-table-wide-eq1.true in one₁)) in no_end₁)) n q) c.put_once-o.auto.table.1.1.0
+    (putting_on c.loop-table.invariant (met c.before.before.before.before.before.before.before.before.before.before.before.before.before.before ((let no_pad₁ : get_or (m c.before.before.before.before.before.before.before.before.before.before.before.before.before.before) (i c.before.before.before.before.before.before.before.before.before.before.before.before.before.before) 0 ≡ 0 → ⊥ = λ q. c.loop-table.invariant.tells.no_pad (ap (λ (k : ℕ). get_or c.loop-table.table k 0) (sym q) ∙ (let one₁ : get_or c.loop-table.table (get_or (m c.before.before.before.before.before.before.before.before.before.before.before.before.before.before) (i c.before.before.before.before.before.before.before.before.before.before.before.before.before.before) 0) 0 ≡ 1 = rw c.wide.ensures.0 at c.if-table-wide-eq1.true in one₁)) in no_pad₁)) ((let no_end₁ : get_or (m c.before.before.before.before.before.before.before.before.before.before.before.before.before.before) (i c.before.before.before.before.before.before.before.before.before.before.before.before.before.before) 0 ≡ 255 → ⊥ = λ q. c.loop-table.invariant.tells.no_end (ap (λ (k : ℕ). get_or c.loop-table.table k 0) (sym q) ∙ (let one₁ : get_or c.loop-table.table (get_or (m c.before.before.before.before.before.before.before.before.before.before.before.before.before.before) (i c.before.before.before.before.before.before.before.before.before.before.before.before.before.before) 0) 0 ≡ 1 = rw c.wide.ensures.0 at c.if-table-wide-eq1.true in one₁)) in no_end₁)) n q) (after c.before.before.before.before.before.before.before.before.before.before.before.before.before.before ((let no_pad₁ : get_or (m c.before.before.before.before.before.before.before.before.before.before.before.before.before.before) (i c.before.before.before.before.before.before.before.before.before.before.before.before.before.before) 0 ≡ 0 → ⊥ = λ q. c.loop-table.invariant.tells.no_pad (ap (λ (k : ℕ). get_or c.loop-table.table k 0) (sym q) ∙ (let one₁ : get_or c.loop-table.table (get_or (m c.before.before.before.before.before.before.before.before.before.before.before.before.before.before) (i c.before.before.before.before.before.before.before.before.before.before.before.before.before.before) 0) 0 ≡ 1 = rw c.wide.ensures.0 at c.if-table-wide-eq1.true in one₁)) in no_pad₁)) ((let no_end₁ : get_or (m c.before.before.before.before.before.before.before.before.before.before.before.before.before.before) (i c.before.before.before.before.before.before.before.before.before.before.before.before.before.before) 0 ≡ 255 → ⊥ = λ q. c.loop-table.invariant.tells.no_end (ap (λ (k : ℕ). get_or c.loop-table.table k 0) (sym q) ∙ (let one₁ : get_or c.loop-table.table (get_or (m c.before.before.before.before.before.before.before.before.before.before.before.before.before.before) (i c.before.before.before.before.before.before.before.before.before.before.before.before.before.before) 0) 0 ≡ 1 = rw c.wide.ensures.0 at c.if-table-wide-eq1.true in one₁)) in no_end₁)) n q) (splits c.before.before.before.before.before.before.before.before.before.before.before.before.before.before ((let no_pad₁ : get_or (m c.before.before.before.before.before.before.before.before.before.before.before.before.before.before) (i c.before.before.before.before.before.before.before.before.before.before.before.before.before.before) 0 ≡ 0 → ⊥ = λ q. c.loop-table.invariant.tells.no_pad (ap (λ (k : ℕ). get_or c.loop-table.table k 0) (sym q) ∙ (let one₁ : get_or c.loop-table.table (get_or (m c.before.before.before.before.before.before.before.before.before.before.before.before.before.before) (i c.before.before.before.before.before.before.before.before.before.before.before.before.before.before) 0) 0 ≡ 1 = rw c.wide.ensures.0 at c.if-table-wide-eq1.true in one₁)) in no_pad₁)) ((let no_end₁ : get_or (m c.before.before.before.before.before.before.before.before.before.before.before.before.before.before) (i c.before.before.before.before.before.before.before.before.before.before.before.before.before.before) 0 ≡ 255 → ⊥ = λ q. c.loop-table.invariant.tells.no_end (ap (λ (k : ℕ). get_or c.loop-table.table k 0) (sym q) ∙ (let one₁ : get_or c.loop-table.table (get_or (m c.before.before.before.before.before.before.before.before.before.before.before.before.before.before) (i c.before.before.before.before.before.before.before.before.before.before.before.before.before.before) 0) 0 ≡ 1 = rw c.wide.ensures.0 at c.if-table-wide-eq1.true in one₁)) in no_end₁)) n q) c.put_once-o.auto.out
     (written_as (sym ((let once₁ : let x = met c.before.before.before.before.before.before.before.before.before.before.before.before.before.before ((let no_pad₁ : get_or (m c.before.before.before.before.before.before.before.before.before.before.before.before.before.before) (i c.before.before.before.before.before.before.before.before.before.before.before.before.before.before) 0 ≡ 0 → ⊥ = λ q. c.loop-table.invariant.tells.no_pad (ap (λ (k : ℕ). get_or c.loop-table.table k 0) (sym q) ∙ (let one₁ : get_or c.loop-table.table (get_or (m c.before.before.before.before.before.before.before.before.before.before.before.before.before.before) (i c.before.before.before.before.before.before.before.before.before.before.before.before.before.before) 0) 0 ≡ 1 = rw c.wide.ensures.0 at c.if-table-wide-eq1.true in one₁)) in no_pad₁)) ((let no_end₁ : get_or (m c.before.before.before.before.before.before.before.before.before.before.before.before.before.before) (i c.before.before.before.before.before.before.before.before.before.before.before.before.before.before) 0 ≡ 255 → ⊥ = λ q. c.loop-table.invariant.tells.no_end (ap (λ (k : ℕ). get_or c.loop-table.table k 0) (sym q) ∙ (let one₁ : get_or c.loop-table.table (get_or (m c.before.before.before.before.before.before.before.before.before.before.before.before.before.before) (i c.before.before.before.before.before.before.before.before.before.before.before.before.before.before) 0) 0 ≡ 1 = rw c.wide.ensures.0 at c.if-table-wide-eq1.true in one₁)) in no_end₁)) c.wide-then-table-wide-eq1.result c.wide-then-table-wide-eq1.ensures.0 in first_record c.loop-table.table x.item.tag (joined_at (over c.before.before.before.before.before.before.before.before.before.before.before.before.before.before) (m c.before.before.before.before.before.before.before.before.before.before.before.before.before.before) (i c.before.before.before.before.before.before.before.before.before.before.before.before.before.before) x.item.tag) ≡ short_record x.item.tag x.item.body = let n = c.wide-then-table-wide-eq1.result in let q = c.wide-then-table-wide-eq1.ensures.0 in putting_once c.loop-table.invariant (met c.before.before.before.before.before.before.before.before.before.before.before.before.before.before ((let no_pad₁ : get_or (m c.before.before.before.before.before.before.before.before.before.before.before.before.before.before) (i c.before.before.before.before.before.before.before.before.before.before.before.before.before.before) 0 ≡ 0 → ⊥ = λ q. c.loop-table.invariant.tells.no_pad (ap (λ (k : ℕ). get_or c.loop-table.table k 0) (sym q) ∙ (let one₁ : get_or c.loop-table.table (get_or (m c.before.before.before.before.before.before.before.before.before.before.before.before.before.before) (i c.before.before.before.before.before.before.before.before.before.before.before.before.before.before) 0) 0 ≡ 1 = rw c.wide.ensures.0 at c.if-table-wide-eq1.true in one₁)) in no_pad₁)) ((let no_end₁ : get_or (m c.before.before.before.before.before.before.before.before.before.before.before.before.before.before) (i c.before.before.before.before.before.before.before.before.before.before.before.before.before.before) 0 ≡ 255 → ⊥ = λ q. c.loop-table.invariant.tells.no_end (ap (λ (k : ℕ). get_or c.loop-table.table k 0) (sym q) ∙ (let one₁ : get_or c.loop-table.table (get_or (m c.before.before.before.before.before.before.before.before.before.before.before.before.before.before) (i c.before.before.before.before.before.before.before.before.before.before.before.before.before.before) 0) 0 ≡ 1 = rw c.wide.ensures.0 at c.if-table-wide-eq1.true in one₁)) in no_end₁)) n q) (after c.before.before.before.before.before.before.before.before.before.before.before.before.before.before ((let no_pad₁ : get_or (m c.before.before.before.before.before.before.before.before.before.before.before.before.before.before) (i c.before.before.before.before.before.before.before.before.before.before.before.before.before.before) 0 ≡ 0 → ⊥ = λ q. c.loop-table.invariant.tells.no_pad (ap (λ (k : ℕ). get_or c.loop-table.table k 0) (sym q) ∙ (let one₁ : get_or c.loop-table.table (get_or (m c.before.before.before.before.before.before.before.before.before.before.before.before.before.before) (i c.before.before.before.before.before.before.before.before.before.before.before.before.before.before) 0) 0 ≡ 1 = rw c.wide.ensures.0 at c.if-table-wide-eq1.true in one₁)) in no_pad₁)) ((let no_end₁ : get_or (m c.before.before.before.before.before.before.before.before.before.before.before.before.before.before) (i c.before.before.before.before.before.before.before.before.before.before.before.before.before.before) 0 ≡ 255 → ⊥ = λ q. c.loop-table.invariant.tells.no_end (ap (λ (k : ℕ). get_or c.loop-table.table k 0) (sym q) ∙ (let one₁ : get_or c.loop-table.table (get_or (m c.before.before.before.before.before.before.before.before.before.before.before.before.before.before) (i c.before.before.before.before.before.before.before.before.before.before.before.before.before.before) 0) 0 ≡ 1 = rw c.wide.ensures.0 at c.if-table-wide-eq1.true in one₁)) in no_end₁)) n q) (splits c.before.before.before.before.before.before.before.before.before.before.before.before.before.before ((let no_pad₁ : get_or (m c.before.before.before.before.before.before.before.before.before.before.before.before.before.before) (i c.before.before.before.before.before.before.before.before.before.before.before.before.before.before) 0 ≡ 0 → ⊥ = λ q. c.loop-table.invariant.tells.no_pad (ap (λ (k : ℕ). get_or c.loop-table.table k 0) (sym q) ∙ (let one₁ : get_or c.loop-table.table (get_or (m c.before.before.before.before.before.before.before.before.before.before.before.before.before.before) (i c.before.before.before.before.before.before.before.before.before.before.before.before.before.before) 0) 0 ≡ 1 = rw c.wide.ensures.0 at c.if-table-wide-eq1.true in one₁)) in no_pad₁)) ((let no_end₁ : get_or (m c.before.before.before.before.before.before.before.before.before.before.before.before.before.before) (i c.before.before.before.before.before.before.before.before.before.before.before.before.before.before) 0 ≡ 255 → ⊥ = λ q. c.loop-table.invariant.tells.no_end (ap (λ (k : ℕ). get_or c.loop-table.table k 0) (sym q) ∙ (let one₁ : get_or c.loop-table.table (get_or (m c.before.before.before.before.before.before.before.before.before.before.before.before.before.before) (i c.before.before.before.before.before.before.before.before.before.before.before.before.before.before) 0) 0 ≡ 1 = rw c.wide.ensures.0 at c.if-table-wide-eq1.true in one₁)) in no_end₁)) n q) (omega (arith, c.wide.ensures.0, c.wide.ensures.1)) ((let one₁ : get_or c.loop-table.table (get_or (m c.before.before.before.before.before.before.before.before.before.before.before.before.before.before) (i c.before.before.before.before.before.before.before.before.before.before.before.before.before.before) 0) 0 ≡ 1 = rw c.wide.ensures.0 at c.if-table-wide-eq1.true in one₁)) (omega (arith, option_size (over c.before.before.before.before.before.before.before.before.before.before.before.before.before.before) (m c.before.before.before.before.before.before.before.before.before.before.before.before.before.before) c.loop-table.invariant.stands ((let no_pad₁ : get_or (m c.before.before.before.before.before.before.before.before.before.before.before.before.before.before) (i c.before.before.before.before.before.before.before.before.before.before.before.before.before.before) 0 ≡ 0 → ⊥ = λ q. c.loop-table.invariant.tells.no_pad (ap (λ (k : ℕ). get_or c.loop-table.table k 0) (sym q) ∙ (let one₁ : get_or c.loop-table.table (get_or (m c.before.before.before.before.before.before.before.before.before.before.before.before.before.before) (i c.before.before.before.before.before.before.before.before.before.before.before.before.before.before) 0) 0 ≡ 1 = rw c.wide.ensures.0 at c.if-table-wide-eq1.true in one₁)) in no_pad₁)) ((let no_end₁ : get_or (m c.before.before.before.before.before.before.before.before.before.before.before.before.before.before) (i c.before.before.before.before.before.before.before.before.before.before.before.before.before.before) 0 ≡ 255 → ⊥ = λ q. c.loop-table.invariant.tells.no_end (ap (λ (k : ℕ). get_or c.loop-table.table k 0) (sym q) ∙ (let one₁ : get_or c.loop-table.table (get_or (m c.before.before.before.before.before.before.before.before.before.before.before.before.before.before) (i c.before.before.before.before.before.before.before.before.before.before.before.before.before.before) 0) 0 ≡ 1 = rw c.wide.ensures.0 at c.if-table-wide-eq1.true in one₁)) in no_end₁)) n (i c.before.before.before.before.before.before.before.before.before.before.before.before.before.before + 2 + n) q refl, c.wide-then-table-wide-eq1.ensures.1)) in once₁))) (rw (part_is (m c.before.before.before.before.before.before.before.before.before.before.before.before.before.before) (i c.before.before.before.before.before.before.before.before.before.before.before.before.before.before) n) at c.put_once-o.ensures.0)))
 
 pub shape_of-table-then-i-eq0 : goal.shape_of-table-then-i-eq0
@@ -115,4 +115,4 @@ loop-table-preserved c = let n = c.wide-else-c-eq0.result in
     let q = c.wide-else-c-eq0.ensures.0 in
     rw c.put_first-o.ensures.1
     (putting_on c.loop-table.invariant (met c.before.before.before.before.before.before.before.before.before.before.before.before.before.before.before c.if-c-eq0.false c.if-c.false n q) (after c.before.before.before.before.before.before.before.before.before.before.before.before.before.before.before c.if-c-eq0.false c.if-c.false n q)
-    (splits c.before.before.before.before.before.before.before.before.before.before.before.before.before.before.before c.if-c-eq0.false c.if-c.false n q) c.put_first-o.auto.table.1.1.1.1.0 c.put_first-o.ensures.0)
+    (splits c.before.before.before.before.before.before.before.before.before.before.before.before.before.before.before c.if-c-eq0.false c.if-c.false n q) c.put_first-o.auto.out c.put_first-o.ensures.0)

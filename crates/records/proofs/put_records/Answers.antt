@@ -15,11 +15,11 @@ put_active-requires c = let k = (let told₁ : Told c.args.m.now c.args.t c.args
 
 pub returns-then-t-codes : goal.returns-then-t-codes
 returns-then-t-codes c = let k = (let told₁ : Told c.args.m.now c.args.t c.args.codes = told_of c.args.m.now c.args.t c.args.codes ((let bytes_of₁ : AllBytes c.args.m.now = all_bytes c.args.m.now (λ i. (c.shared_slice_known-1.given i).fits) in bytes_of₁)) c.requires.1 c.requires.0 c.requires.2 in told₁) in
-    fills_given k c.args.out.now c.put_active.result c.put_active.new.out.1.0 c.requires.3 (written_as (sym (told_once k c.if-t-codes.true)) c.put_active.ensures)
+    fills_given k c.args.out.now c.put_active.result c.put_active.new.out c.requires.3 (written_as (sym (told_once k c.if-t-codes.true)) c.put_active.ensures)
 
 pub put_split-requires : goal.put_split-requires
 put_split-requires c = let k = (let told₁ : Told c.args.m.now c.args.t c.args.codes = told_of c.args.m.now c.args.t c.args.codes ((let bytes_of₁ : AllBytes c.args.m.now = all_bytes c.args.m.now (λ i. (c.shared_slice_known-1.given i).fits) in bytes_of₁)) c.requires.1 c.requires.0 c.requires.2 in told₁) in
     (told_ends k ((let bytes_of₁ : AllBytes c.args.m.now = all_bytes c.args.m.now (λ i. (c.shared_slice_known-1.given i).fits) in bytes_of₁)), told_small k, told_fits k (length c.args.out.now) c.requires.3, told_short k)
 
 pub returns : goal.returns
-returns c = fills_given ((let told₁ : Told c.args.m.now c.args.t c.args.codes = told_of c.args.m.now c.args.t c.args.codes ((let bytes_of₁ : AllBytes c.args.m.now = all_bytes c.args.m.now (λ i. (c.shared_slice_known-1.given i).fits) in bytes_of₁)) c.requires.1 c.requires.0 c.requires.2 in told₁)) c.args.out.now c.put_split.result c.put_split.new.out.1.0 c.requires.3 c.put_split.ensures
+returns c = fills_given ((let told₁ : Told c.args.m.now c.args.t c.args.codes = told_of c.args.m.now c.args.t c.args.codes ((let bytes_of₁ : AllBytes c.args.m.now = all_bytes c.args.m.now (λ i. (c.shared_slice_known-1.given i).fits) in bytes_of₁)) c.requires.1 c.requires.0 c.requires.2 in told₁)) c.args.out.now c.put_split.result c.put_split.new.out c.requires.3 c.put_split.ensures

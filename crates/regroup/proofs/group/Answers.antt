@@ -16,7 +16,7 @@ pub returns-then-s-gt4096 : goal.returns-then-s-gt4096
 returns-then-s-gt4096 c = fills_unfilled (move c.args.s.now c.args.out.now) 16 (length c.args.s.now) c.args.out.now (move_long c.args.s.now c.args.out.now c.if-s-gt4096.true)
 
 pub returns-in-Passed : goal.returns-in-Passed
-returns-in-Passed c = let fine : movable (records_from 0 0 c.args.s.now) ≡ passed = verdict_of_lem Passed (movable (records_from 0 0 c.args.s.now)) (sym c.enum_told-1.given.1 ∙ c.sheet_fault.ensures) in
+returns-in-Passed c = let fine : movable (records_from 0 0 c.args.s.now) ≡ passed = verdict_of_lem Passed (movable (records_from 0 0 c.args.s.now)) (sym c.in-Passed.is ∙ c.sheet_fault.ensures) in
     rw (move_passed c.args.s.now c.args.out.now c.if-s-gt4096.false fine) c.put_group.ensures
 
 pub returns-in-Refused : goal.returns-in-Refused

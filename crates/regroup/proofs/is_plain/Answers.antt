@@ -20,12 +20,12 @@ loop-tag-init c = let f = c.args.f.now in sym (nameless f (sym c.byte.ensures �
 pub returns-in-End : goal.returns-in-End
 unfolding none_group
 returns-in-End c = let f = c.args.f.now in
-    sym (sym c.loop-tag.invariant ∙ none_by f c.loop-tag.at End (sym c.enum_told-1.given.1 ∙ c.next_record.ensures))
+    sym (sym c.loop-tag.invariant ∙ none_by f c.loop-tag.at End (sym c.in-End.is ∙ c.next_record.ensures))
 
 pub returns-in-Cut : goal.returns-in-Cut
 unfolding none_group
 returns-in-Cut c = let f = c.args.f.now in
-    sym (sym c.loop-tag.invariant ∙ none_by f c.loop-tag.at Cut (sym c.enum_told-in-Cut-1.given.1 ∙ c.next_record.ensures))
+    sym (sym c.loop-tag.invariant ∙ none_by f c.loop-tag.at Cut (sym c.in-Cut.is ∙ c.next_record.ensures))
 
 pub returns-then-tag-eq0 : goal.returns-then-tag-eq0
 returns-then-tag-eq0 c = let tag = c.tag-1.given in

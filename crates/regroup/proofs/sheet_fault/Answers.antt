@@ -15,13 +15,13 @@ pub returns-in-End : goal.returns-in-End
 unfolding movable
 returns-in-End c = let s = c.args.s.now in
     let m = past_moved s (λ k. omega (arith, c.shared_slice_known-1.given k)) c.past_records-at.result c.past_records-at.ensures in
-    sym (ap checked_of (m.0 ∙ movable_by s c.past_records-at.result End (sym c.enum_told-1.given.1 ∙ c.next_record.ensures)))
+    sym (ap checked_of (m.0 ∙ movable_by s c.past_records-at.result End (sym c.in-End.is ∙ c.next_record.ensures)))
 
 pub returns-in-Cut : goal.returns-in-Cut
 unfolding movable
 returns-in-Cut c = let s = c.args.s.now in
     let m = past_moved s (λ k. omega (arith, c.shared_slice_known-1.given k)) c.past_records-at.result c.past_records-at.ensures in
-    sym (ap checked_of (m.0 ∙ movable_by s c.past_records-at.result Cut (sym c.enum_told-in-Cut-1.given.1 ∙ c.next_record.ensures)))
+    sym (ap checked_of (m.0 ∙ movable_by s c.past_records-at.result Cut (sym c.in-Cut.is ∙ c.next_record.ensures)))
 
 pub returns-in-Record : goal.returns-in-Record
 returns-in-Record c = let tag = c.tag-1.given in

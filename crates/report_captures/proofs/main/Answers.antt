@@ -6,4 +6,4 @@ pub slice_bounds-text-end : goal.slice_bounds-text-end
 slice_bounds-text-end c = omega (arith, c.reported-r.ensures.5)
 
 pub slice_bounds-write_all-end : goal.slice_bounds-write_all-end
-slice_bounds-write_all-end c = sym (length-take-le c.reported-r.result.size c.reported-r.new.text.0 (array-share-prefix-text c.before))
+slice_bounds-write_all-end c = sym (length-take-le c.reported-r.result.size c.reported-r.new.text (array-share-prefix-text c.before))

@@ -33,10 +33,10 @@ pub loop-tag-init : goal.loop-tag-init
 loop-tag-init c = begins c.args.s.now
 
 pub returns-in-End : goal.returns-in-End
-returns-in-End c = c.order.ensures ∙ ends (c.args.s.now) c.loop-tag.seen c.loop-tag.three c.loop-tag.one (sums c.loop-tag.total c.loop-tag.single c.loop-tag.relay) c.loop-tag.at c.loop-tag.invariant (sym c.enum_told-1.given.1 ∙ c.next_record.ensures)
+returns-in-End c = c.order.ensures ∙ ends (c.args.s.now) c.loop-tag.seen c.loop-tag.three c.loop-tag.one (sums c.loop-tag.total c.loop-tag.single c.loop-tag.relay) c.loop-tag.at c.loop-tag.invariant (sym c.in-End.is ∙ c.next_record.ensures)
 
 pub returns-in-Cut : goal.returns-in-Cut
-returns-in-Cut c = c.faulty.ensures ∙ cut_off (c.args.s.now) c.loop-tag.seen c.loop-tag.three c.loop-tag.one (sums c.loop-tag.total c.loop-tag.single c.loop-tag.relay) c.loop-tag.at c.loop-tag.invariant (sym c.enum_told-in-Cut-1.given.1 ∙ c.next_record.ensures)
+returns-in-Cut c = c.faulty.ensures ∙ cut_off (c.args.s.now) c.loop-tag.seen c.loop-tag.three c.loop-tag.one (sums c.loop-tag.total c.loop-tag.single c.loop-tag.relay) c.loop-tag.at c.loop-tag.invariant (sym c.in-Cut.is ∙ c.next_record.ensures)
 
 pub returns-then-size-gt1024 : goal.returns-then-size-gt1024
 returns-then-size-gt1024 c = rw (c.faulty-then-size-gt1024.ensures, c.long_fault.ensures)

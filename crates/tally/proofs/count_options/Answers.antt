@@ -14,34 +14,34 @@ pub bounds-m-i : goal.bounds-m-i
 bounds-m-i c = stands_in c.args.over c.args.m.now c.loop-n.invariant.stands
 
 pub overflow_add-i : goal.overflow_add-i
-overflow_add-i c = omega (arith, (let first_within₁ : let m = c.args.m.now in c.loop-n.i + 2 + get_or m (c.loop-n.i + 1) 0 ≤ length m = let s = c.loop-n.invariant in option_in_lem c.args.over c.args.m.now s.stands (no_pad s _ ((let fresh₁ : marked c.loop-n.met (get_or c.args.m.now c.loop-n.i 0) ≡ false = sym c.is_met.ensures ∙ not-true _ c.if-not-is_met.true in fresh₁))) (no_end s _ ((let fresh₁ : marked c.loop-n.met (get_or c.args.m.now c.loop-n.i 0) ≡ false = sym c.is_met.ensures ∙ not-true _ c.if-not-is_met.true in fresh₁))) (get_or c.args.m.now (c.loop-n.i + 1) 0) _ refl refl in first_within₁))
+overflow_add-i c = omega (arith, (let first_within₁ : let m = c.args.m.now in c.loop-n.i + 2 + get_or m (c.loop-n.i + 1) 0 ≤ length m = let s = c.loop-n.invariant in option_in_lem c.args.over c.args.m.now s.stands (no_pad s _ ((let fresh₁ : marked c.loop-n.met (get_or c.args.m.now c.loop-n.i 0) ≡ false = sym c.is_met.ensures ∙ c.if-not-is_met.true in fresh₁))) (no_end s _ ((let fresh₁ : marked c.loop-n.met (get_or c.args.m.now c.loop-n.i 0) ≡ false = sym c.is_met.ensures ∙ c.if-not-is_met.true in fresh₁))) (get_or c.args.m.now (c.loop-n.i + 1) 0) _ refl refl in first_within₁))
 
 pub bounds-m-i-then-not-is_met : goal.bounds-m-i-then-not-is_met
-bounds-m-i-then-not-is_met c = omega (arith, (let first_within₁ : let m = c.args.m.now in c.loop-n.i + 2 + get_or m (c.loop-n.i + 1) 0 ≤ length m = let s = c.loop-n.invariant in option_in_lem c.args.over c.args.m.now s.stands (no_pad s _ ((let fresh₁ : marked c.loop-n.met (get_or c.args.m.now c.loop-n.i 0) ≡ false = sym c.is_met.ensures ∙ not-true _ c.if-not-is_met.true in fresh₁))) (no_end s _ ((let fresh₁ : marked c.loop-n.met (get_or c.args.m.now c.loop-n.i 0) ≡ false = sym c.is_met.ensures ∙ not-true _ c.if-not-is_met.true in fresh₁))) (get_or c.args.m.now (c.loop-n.i + 1) 0) _ refl refl in first_within₁))
+bounds-m-i-then-not-is_met c = omega (arith, (let first_within₁ : let m = c.args.m.now in c.loop-n.i + 2 + get_or m (c.loop-n.i + 1) 0 ≤ length m = let s = c.loop-n.invariant in option_in_lem c.args.over c.args.m.now s.stands (no_pad s _ ((let fresh₁ : marked c.loop-n.met (get_or c.args.m.now c.loop-n.i 0) ≡ false = sym c.is_met.ensures ∙ c.if-not-is_met.true in fresh₁))) (no_end s _ ((let fresh₁ : marked c.loop-n.met (get_or c.args.m.now c.loop-n.i 0) ≡ false = sym c.is_met.ensures ∙ c.if-not-is_met.true in fresh₁))) (get_or c.args.m.now (c.loop-n.i + 1) 0) _ refl refl in first_within₁))
 
 pub overflow_add-i-then-not-is_met : goal.overflow_add-i-then-not-is_met
-overflow_add-i-then-not-is_met c = omega (arith, (let first_within₁ : let m = c.args.m.now in c.loop-n.i + 2 + get_or m (c.loop-n.i + 1) 0 ≤ length m = let s = c.loop-n.invariant in option_in_lem c.args.over c.args.m.now s.stands (no_pad s _ ((let fresh₁ : marked c.loop-n.met (get_or c.args.m.now c.loop-n.i 0) ≡ false = sym c.is_met.ensures ∙ not-true _ c.if-not-is_met.true in fresh₁))) (no_end s _ ((let fresh₁ : marked c.loop-n.met (get_or c.args.m.now c.loop-n.i 0) ≡ false = sym c.is_met.ensures ∙ not-true _ c.if-not-is_met.true in fresh₁))) (get_or c.args.m.now (c.loop-n.i + 1) 0) _ refl refl in first_within₁))
+overflow_add-i-then-not-is_met c = omega (arith, (let first_within₁ : let m = c.args.m.now in c.loop-n.i + 2 + get_or m (c.loop-n.i + 1) 0 ≤ length m = let s = c.loop-n.invariant in option_in_lem c.args.over c.args.m.now s.stands (no_pad s _ ((let fresh₁ : marked c.loop-n.met (get_or c.args.m.now c.loop-n.i 0) ≡ false = sym c.is_met.ensures ∙ c.if-not-is_met.true in fresh₁))) (no_end s _ ((let fresh₁ : marked c.loop-n.met (get_or c.args.m.now c.loop-n.i 0) ≡ false = sym c.is_met.ensures ∙ c.if-not-is_met.true in fresh₁))) (get_or c.args.m.now (c.loop-n.i + 1) 0) _ refl refl in first_within₁))
 
 pub overflow_add-i-then-not-is_met-2 : goal.overflow_add-i-then-not-is_met-2
-overflow_add-i-then-not-is_met-2 c = omega (arith, (let first_within₁ : let m = c.args.m.now in c.loop-n.i + 2 + get_or m (c.loop-n.i + 1) 0 ≤ length m = let s = c.loop-n.invariant in option_in_lem c.args.over c.args.m.now s.stands (no_pad s _ ((let fresh₁ : marked c.loop-n.met (get_or c.args.m.now c.loop-n.i 0) ≡ false = sym c.is_met.ensures ∙ not-true _ c.if-not-is_met.true in fresh₁))) (no_end s _ ((let fresh₁ : marked c.loop-n.met (get_or c.args.m.now c.loop-n.i 0) ≡ false = sym c.is_met.ensures ∙ not-true _ c.if-not-is_met.true in fresh₁))) (get_or c.args.m.now (c.loop-n.i + 1) 0) _ refl refl in first_within₁), c.wide-n.ensures.0)
+overflow_add-i-then-not-is_met-2 c = omega (arith, (let first_within₁ : let m = c.args.m.now in c.loop-n.i + 2 + get_or m (c.loop-n.i + 1) 0 ≤ length m = let s = c.loop-n.invariant in option_in_lem c.args.over c.args.m.now s.stands (no_pad s _ ((let fresh₁ : marked c.loop-n.met (get_or c.args.m.now c.loop-n.i 0) ≡ false = sym c.is_met.ensures ∙ c.if-not-is_met.true in fresh₁))) (no_end s _ ((let fresh₁ : marked c.loop-n.met (get_or c.args.m.now c.loop-n.i 0) ≡ false = sym c.is_met.ensures ∙ c.if-not-is_met.true in fresh₁))) (get_or c.args.m.now (c.loop-n.i + 1) 0) _ refl refl in first_within₁), c.wide-n.ensures.0)
 
 pub loop-n-smaller-then-not-is_met : goal.loop-n-smaller-then-not-is_met
 loop-n-smaller-then-not-is_met c = let s = c.loop-n.invariant in
-    option_less c.args.over c.args.m.now s.stands (no_pad s _ ((let fresh₁ : marked c.loop-n.met (get_or c.args.m.now c.loop-n.i 0) ≡ false = sym c.is_met.ensures ∙ not-true _ c.if-not-is_met.true in fresh₁))) (no_end s _ ((let fresh₁ : marked c.loop-n.met (get_or c.args.m.now c.loop-n.i 0) ≡ false = sym c.is_met.ensures ∙ not-true _ c.if-not-is_met.true in fresh₁))) c.wide-n.result _ c.wide-n.ensures.0 refl
+    option_less c.args.over c.args.m.now s.stands (no_pad s _ ((let fresh₁ : marked c.loop-n.met (get_or c.args.m.now c.loop-n.i 0) ≡ false = sym c.is_met.ensures ∙ c.if-not-is_met.true in fresh₁))) (no_end s _ ((let fresh₁ : marked c.loop-n.met (get_or c.args.m.now c.loop-n.i 0) ≡ false = sym c.is_met.ensures ∙ c.if-not-is_met.true in fresh₁))) c.wide-n.result _ c.wide-n.ensures.0 refl
 
 pub loop-n-preserved-then-not-is_met : goal.loop-n-preserved-then-not-is_met
 loop-n-preserved-then-not-is_met c = let s = c.loop-n.invariant in
     let e = c.count_first.ensures in
     rw e.1
     (counting_first s
-    (option_at c.args.over c.args.m.now s.stands (no_pad s _ ((let fresh₁ : marked c.loop-n.met (get_or c.args.m.now c.loop-n.i 0) ≡ false = sym c.is_met.ensures ∙ not-true _ c.if-not-is_met.true in fresh₁))) (no_end s _ ((let fresh₁ : marked c.loop-n.met (get_or c.args.m.now c.loop-n.i 0) ≡ false = sym c.is_met.ensures ∙ not-true _ c.if-not-is_met.true in fresh₁))) c.wide-n.result _ c.wide-n.ensures.0 refl)
-    (option_stands c.args.over c.args.m.now s.stands (no_pad s _ ((let fresh₁ : marked c.loop-n.met (get_or c.args.m.now c.loop-n.i 0) ≡ false = sym c.is_met.ensures ∙ not-true _ c.if-not-is_met.true in fresh₁))) (no_end s _ ((let fresh₁ : marked c.loop-n.met (get_or c.args.m.now c.loop-n.i 0) ≡ false = sym c.is_met.ensures ∙ not-true _ c.if-not-is_met.true in fresh₁))) c.wide-n.result _ c.wide-n.ensures.0 refl)
-    (option_left c.args.over c.args.m.now s.stands (no_pad s _ ((let fresh₁ : marked c.loop-n.met (get_or c.args.m.now c.loop-n.i 0) ≡ false = sym c.is_met.ensures ∙ not-true _ c.if-not-is_met.true in fresh₁))) (no_end s _ ((let fresh₁ : marked c.loop-n.met (get_or c.args.m.now c.loop-n.i 0) ≡ false = sym c.is_met.ensures ∙ not-true _ c.if-not-is_met.true in fresh₁))) c.wide-n.result _ c.wide-n.ensures.0 refl)
+    (option_at c.args.over c.args.m.now s.stands (no_pad s _ ((let fresh₁ : marked c.loop-n.met (get_or c.args.m.now c.loop-n.i 0) ≡ false = sym c.is_met.ensures ∙ c.if-not-is_met.true in fresh₁))) (no_end s _ ((let fresh₁ : marked c.loop-n.met (get_or c.args.m.now c.loop-n.i 0) ≡ false = sym c.is_met.ensures ∙ c.if-not-is_met.true in fresh₁))) c.wide-n.result _ c.wide-n.ensures.0 refl)
+    (option_stands c.args.over c.args.m.now s.stands (no_pad s _ ((let fresh₁ : marked c.loop-n.met (get_or c.args.m.now c.loop-n.i 0) ≡ false = sym c.is_met.ensures ∙ c.if-not-is_met.true in fresh₁))) (no_end s _ ((let fresh₁ : marked c.loop-n.met (get_or c.args.m.now c.loop-n.i 0) ≡ false = sym c.is_met.ensures ∙ c.if-not-is_met.true in fresh₁))) c.wide-n.result _ c.wide-n.ensures.0 refl)
+    (option_left c.args.over c.args.m.now s.stands (no_pad s _ ((let fresh₁ : marked c.loop-n.met (get_or c.args.m.now c.loop-n.i 0) ≡ false = sym c.is_met.ensures ∙ c.if-not-is_met.true in fresh₁))) (no_end s _ ((let fresh₁ : marked c.loop-n.met (get_or c.args.m.now c.loop-n.i 0) ≡ false = sym c.is_met.ensures ∙ c.if-not-is_met.true in fresh₁))) c.wide-n.result _ c.wide-n.ensures.0 refl)
     _
-    (option_size c.args.over c.args.m.now s.stands (no_pad s _ ((let fresh₁ : marked c.loop-n.met (get_or c.args.m.now c.loop-n.i 0) ≡ false = sym c.is_met.ensures ∙ not-true _ c.if-not-is_met.true in fresh₁))) (no_end s _ ((let fresh₁ : marked c.loop-n.met (get_or c.args.m.now c.loop-n.i 0) ≡ false = sym c.is_met.ensures ∙ not-true _ c.if-not-is_met.true in fresh₁))) c.wide-n.result _ c.wide-n.ensures.0 refl)
+    (option_size c.args.over c.args.m.now s.stands (no_pad s _ ((let fresh₁ : marked c.loop-n.met (get_or c.args.m.now c.loop-n.i 0) ≡ false = sym c.is_met.ensures ∙ c.if-not-is_met.true in fresh₁))) (no_end s _ ((let fresh₁ : marked c.loop-n.met (get_or c.args.m.now c.loop-n.i 0) ≡ false = sym c.is_met.ensures ∙ c.if-not-is_met.true in fresh₁))) c.wide-n.result _ c.wide-n.ensures.0 refl)
     _
     e.3
-    e.0 ((let fresh₁ : marked c.loop-n.met (get_or c.args.m.now c.loop-n.i 0) ≡ false = sym c.is_met.ensures ∙ not-true _ c.if-not-is_met.true in fresh₁)) _ e.2)
+    e.0 ((let fresh₁ : marked c.loop-n.met (get_or c.args.m.now c.loop-n.i 0) ≡ false = sym c.is_met.ensures ∙ c.if-not-is_met.true in fresh₁)) _ e.2)
 
 pub shape_of-held-then-i-eq0 : goal.shape_of-held-then-i-eq0
 shape_of-held-then-i-eq0 c = c.loop-n.invariant.held_long
@@ -98,4 +98,4 @@ loop-n-preserved c = let s = c.loop-n.invariant in
     (option_size c.args.over c.args.m.now s.stands c.if-c-eq0.false c.if-c.false c.wide-n-else-c-eq0.result _ c.wide-n-else-c-eq0.ensures.0 refl)
     _
     e.1
-    ((let met_before₁ : marked c.loop-n.met (get_or c.args.m.now c.loop-n.i 0) ≡ true = sym c.is_met.ensures ∙ not-false _ c.if-not-is_met.false in met_before₁)) c.if-c-eq0.false c.if-c.false
+    ((let met_before₁ : marked c.loop-n.met (get_or c.args.m.now c.loop-n.i 0) ≡ true = sym c.is_met.ensures ∙ c.if-not-is_met.false in met_before₁)) c.if-c-eq0.false c.if-c.false

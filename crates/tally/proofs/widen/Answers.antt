@@ -4,7 +4,7 @@ use borrow.Author.Tests.{not-true, not-false}
 use Rattle.tally.proofs.widen.Goals as goal
 
 pub returns-then-not-t : goal.returns-then-not-t
-returns-then-not-t c = rw (not-true c.args.t.any c.if-not-t.true)
+returns-then-not-t c = rw c.if-not-t.true
 
 pub returns : goal.returns
-returns c = rw (not-false c.args.t.any c.if-not-t.false) c.with_time.ensures
+returns c = rw c.if-not-t.false c.with_time.ensures

@@ -9,10 +9,10 @@ use borrow.Author.Rules.{rules}
 use Rattle.trim.proofs.walk_if.Goals as goal
 
 pub returns-then-not-active : goal.returns-then-not-active
-returns-then-not-active c = rw (sym c.active.ensures ∙ not-true _ c.if-not-active.true) c.ended.ensures
+returns-then-not-active c = rw (sym c.active.ensures ∙ c.if-not-active.true) c.ended.ensures
 
 pub walk-requires : goal.walk-requires
 walk-requires c = omega (arith, c.requires, ap length c.field_bytes.ensures, field_le (field_of c.args.field) c.args.m.now)
 
 pub returns : goal.returns
-returns c = rw (sym c.active.ensures ∙ not-false _ c.if-not-active.false) (rw c.field_bytes.ensures at c.walk.ensures)
+returns c = rw (sym c.active.ensures ∙ c.if-not-active.false) (rw c.field_bytes.ensures at c.walk.ensures)

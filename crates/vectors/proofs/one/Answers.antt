@@ -10,4 +10,4 @@ pub slice_bounds-text-end : goal.slice_bounds-text-end
 slice_bounds-text-end c = omega (arith, c.list-n.ensures.0, simp length-append at (ap length c.list-n.ensures.1))
 
 pub slice_bounds-word-end : goal.slice_bounds-word-end
-slice_bounds-word-end c = sym (length-take-le c.list-n.result c.list-n.new.out.0 (array-share-prefix-text c.before))
+slice_bounds-word-end c = sym (length-take-le c.list-n.result c.list-n.new.out (array-share-prefix-text c.before))

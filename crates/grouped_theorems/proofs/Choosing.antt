@@ -175,7 +175,7 @@ so_reached class name (inl e) = rw e
 so_reached class [] (inr e) = refl
 so_reached class (x ∷ xs) (inr e) = ap (λ (l : List ℕ). same (x ∷ xs) l) (sym e) ∙ same_self (x ∷ xs)
 
-pub from_reached : {around names : List (List ℕ)} {q p : ℕ} {left bs : List ℕ} (class : List ℕ) → From around q left names p bs → Reached class around → Reached class names
+pub from_reached : {around : List (List ℕ)} {q : ℕ} {left : List ℕ} {names : List (List ℕ)} {p : ℕ} {bs : List ℕ} (class : List ℕ) → From around q left names p bs → Reached class around → Reached class names
 from_reached class (here a e b) r = subst (Reached class) (sym a) r
 from_reached class (into name members g w) r = (from_reached class w r).1
 from_reached class (next l o w) r = from_reached class w r

@@ -42,6 +42,7 @@ not_11 (inl z) e = omega arith
 not_11 (inr (inl z)) e = omega arith
 not_11 (inr (inr (inl z))) e = omega arith
 not_11 (inr (inr (inr (inl z)))) e = omega arith
+not_11 (inr (inr (inr (inr x5)))) e = elim x5 [ ]
 
 -- with 11 there
 with_11 : {n : ℕ} → OneOf n (10 ∷ 16 ∷ 20 ∷ 21 ∷ []) → OneOf n (10 ∷ 11 ∷ 16 ∷ 20 ∷ 21 ∷ [])
@@ -54,6 +55,7 @@ with_22 (inl z) = inl z
 with_22 (inr (inl z)) = inr (inr (inl z))
 with_22 (inr (inr (inl z))) = inr (inr (inr (inl z)))
 with_22 (inr (inr (inr (inl z)))) = inr (inr (inr (inr (inl z))))
+with_22 (inr (inr (inr (inr x4)))) = elim x4 [ ]
 
 -- ---- the choice
 

@@ -57,7 +57,7 @@ module _ (s old : List ℕ) (clean : NoneOf (MoveRow s old)) where
   no_zero : {i : ℕ} {bs d after : List ℕ} → RecordBegins s i → drop i s ≡ bs → Item bs 0 d after → ⊥
   no_zero b e o = clean _ _ _ (when_of_writer (row_10 b (e ∙ item_bytes_lem o) (inl refl)) (omega arith))
 
-  begun : {around names : List (List ℕ)} {q p i : ℕ} {left bs : List ℕ} → From around q left names p bs → RecordBegins s i → drop i s ≡ bs → Begun s left × (around ≡ names)
+  begun : {around : List (List ℕ)} {q : ℕ} {left : List ℕ} {names : List (List ℕ)} {p i : ℕ} {bs : List ℕ} → From around q left names p bs → RecordBegins s i → drop i s ≡ bs → Begun s left × (around ≡ names)
   begun {i = i} (here a e b) r d = (record { place = i; begins = r; reads = d ∙ b }, sym a)
   begun (into name members g w) r d = absurd (no_zero r d g)
   begun {i = i} (next l o w) r d = begun w (after_record r (record_at d o)) (behind_record s i d o)

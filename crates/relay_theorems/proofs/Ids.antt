@@ -24,6 +24,7 @@ module _ (c : ℕ) where
 
   none_more : (pre : List Rec) (r : Rec) → None c pre → (r.tag ≡ c → ⊥) → None c (pre ++ (r ∷ []))
   none_more [] r n z x (inl e) t = z (sym (ap (λ (y : Rec). y.tag) e) ∙ t)
+  none_more [] r n z x (inr h) t = elim h [ ]
   none_more (p ∷ pre) r n z x (inl e) t = n x (inl e) t
   none_more (p ∷ pre) r n z x (inr h) t = none_more pre r (λ y k. n y (inr k)) z x h t
 

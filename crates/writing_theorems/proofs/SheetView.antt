@@ -152,7 +152,7 @@ walk_record s i c d o =
     let three : i + 1 + 1 + 1 ≡ i + 3 = omega arith in
     let is : take (length d) (d ++ o.after) ≡ d = take-append_seam d o.after in
     ap (records_from i 0) o.reads
-    ∙ simp (o.size, uncut, is, three) (ap (read_at i (rec c d)) (walk_skip (i + 3) d o.after ∙ ap (records_from (i + 3 + length d) 0) (sym (lies_next o))))
+    ∙ simp (o.size, uncut, is) (ap (read_at i (rec c d)) (ap (λ (n : ℕ). records_from n (length d) (d ++ o.after)) three ∙ walk_skip (i + 3) d o.after ∙ ap (records_from (i + 3 + length d) 0) (sym (lies_next o))))
 
 -- ---- The bytes of records
 

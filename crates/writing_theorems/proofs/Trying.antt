@@ -65,6 +65,7 @@ module _ (m : List ℕ) (rs : List Rec) where
 
   used_first : (ps : List ℕ) (q : ℕ) → FirstHolding (length m - 240) rs ps q → try_plans ps m rs ≡ wrote q (written q m rs)
   unfolding try_plans
+  used_first [] q x' = elim x' [ ]
   used_first (p ∷ ps) q (this_one h) = rw (fitting p (length m - 240) rs h)
   used_first (p ∷ ps) q (a_later n f) = rw (not_fitting p n) (used_first ps q f)
 

@@ -12,10 +12,9 @@ use Rattle.writing_theorems.proofs.Room.{no_room_means_no_room, eleven_is_no_roo
 use Rattle.writing_theorems.proofs.Demand.{written_is_accepted, sheet_comes_back, demand_3_known, demand_3_others, demand_3, demand_3_of_kinds}
 use Rattle.writing_theorems.proofs.IndexedDemand.{indexed_demand_3, indexed_demand_3_of_kinds}
 use Rattle.writing_theorems.proofs.LongRecords.{long_cases_hold}
-use Rattle.writing_theorems.proofs.proved.Statement.{statement}
-use Rattle.writing_theorems.proofs.proved.Tie as tie
+use Rattle.writing_theorems.proofs.proved.Goals as goal
 
-returns : tie.Need-returns
+pub returns : goal.returns
 returns c = (
   record_bytes_right,
   ruled_right,
@@ -51,6 +50,3 @@ returns c = (
   indexed_demand_3_of_kinds,
   long_cases_hold,
 )
-
-pub proved-spec : {M : Type 1} → statement M
-proved-spec = tie.close (tie.spec returns)

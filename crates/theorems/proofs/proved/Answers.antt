@@ -21,10 +21,9 @@ use Rattle.theorems.proofs.Entries.{one_index, no_code_no_entry}
 use Rattle.theorems.proofs.Indexes.{build_is_right, answers_as_plain, answers_by_the_words, indexed_lookup_is_correct}
 use Rattle.theorems.proofs.Cases.{cases_hold}
 use Rattle.theorems.proofs.IndexCases.{index_cases_hold}
-use Rattle.theorems.proofs.proved.Statement.{statement}
-use Rattle.theorems.proofs.proved.Tie as tie
+use Rattle.theorems.proofs.proved.Goals as goal
 
-returns : tie.Need-returns
+pub returns : goal.returns
 returns c = (
   nothing_after_end,
   refused_by_the_table,
@@ -96,6 +95,3 @@ returns c = (
   cases_hold,
   index_cases_hold,
 )
-
-pub proved-spec : {M : Type 1} → statement M
-proved-spec = tie.close (tie.spec returns)

@@ -3,10 +3,9 @@ use Rattle.vendor_theorems.proofs.Items.{vendor_reader_is_correct, vendor_room_i
 use Rattle.vendor_theorems.proofs.Writing.{vendor_writer_is_correct, vendor_comes_back}
 use Rattle.vendor_theorems.proofs.Numbers.{vendor_write_room_is_enough, vendor_numbers}
 use Rattle.vendor_theorems.proofs.VendorCases.{vendor_cases_hold}
-use Rattle.vendor_theorems.proofs.proved.Statement.{statement}
-use Rattle.vendor_theorems.proofs.proved.Tie as tie
+use Rattle.vendor_theorems.proofs.proved.Goals as goal
 
-returns : tie.Need-returns
+pub returns : goal.returns
 returns c = (
   vendor_reader_is_correct,
   vendor_room_is_enough,
@@ -16,6 +15,3 @@ returns c = (
   vendor_comes_back,
   vendor_cases_hold,
 )
-
-pub proved-spec : {M : Type 1} → statement M
-proved-spec = tie.close (tie.spec returns)

@@ -1,6 +1,5 @@
 -- `relay_theorems::proved` meets its contract. Assumes nothing.
-use Rattle.relay_theorems.proofs.proved.Statement.{statement}
-use Rattle.relay_theorems.proofs.proved.Tie as tie
+use Rattle.relay_theorems.proofs.proved.Goals as goal
 use Rattle.relay_theorems.proofs.Reading.{relay_reader_is_correct}
 use Rattle.relay_theorems.proofs.Row.{relay_reads_the_row}
 use Rattle.relay_theorems.proofs.Writing.{relay_writer_is_correct, relay_comes_back, written_keeps_the_row}
@@ -9,8 +8,5 @@ use Rattle.relay_theorems.proofs.Rowless.{rowless_codes}
 use Rattle.relay_theorems.proofs.Alike.{walked_alike}
 use Rattle.relay_theorems.proofs.RelayCases.{relay_cases_hold}
 
-returns : tie.Need-returns
+pub returns : goal.returns
 returns c = (relay_reader_is_correct, relay_reads_the_row, relay_room_is_enough, relay_writer_is_correct, relay_write_room_is_enough, relay_numbers, relay_comes_back, written_keeps_the_row, relay_cases_hold, relay_cases_hold.2, rowless_codes, walked_alike)
-
-pub proved-spec : {M : Type 1} → statement M
-proved-spec = tie.close (tie.spec returns)

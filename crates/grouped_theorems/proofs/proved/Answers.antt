@@ -6,10 +6,9 @@ use Rattle.grouped_theorems.proofs.Numbers.{grouped_room_is_enough, grouped_numb
 use Rattle.grouped_theorems.proofs.Rounds.{moved_comes_back, moved_is_chosen, back_moves_again}
 use Rattle.grouped_theorems.proofs.Demands.{records_are_chosen, chosen_comes_back, chosen_demand_3}
 use Rattle.grouped_theorems.proofs.Cases.{cases_hold, checks_hold}
-use Rattle.grouped_theorems.proofs.proved.Statement.{statement}
-use Rattle.grouped_theorems.proofs.proved.Tie as tie
+use Rattle.grouped_theorems.proofs.proved.Goals as goal
 
-returns : tie.Need-returns
+pub returns : goal.returns
 returns c = (
   check_is_correct,
   choice_is_correct,
@@ -29,6 +28,3 @@ returns c = (
   cases_hold,
   checks_hold,
 )
-
-pub proved-spec : {M : Type 1} → statement M
-proved-spec = tie.close (tie.spec returns)

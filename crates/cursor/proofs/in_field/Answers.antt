@@ -9,7 +9,7 @@ pub returns-then-not-active : goal.returns-then-not-active
 returns-then-not-active c = step_inactive c.args.over c.args.m.now c.args.field c.args.from (sym c.active.ensures ∙ c.if-not-active.true)
 
 pub returns-in-Item : goal.returns-in-Item
-returns-in-Item c = step_active c.args.over c.args.m.now c.args.field c.args.from _ _ (sym c.active.ensures ∙ c.if-not-active.false) c.field_bytes.ensures (sym c.offset-1.given.1 ∙ c.next_option.ensures)
+returns-in-Item c = step_active c.args.over c.args.m.now c.args.field c.args.from _ _ (sym c.active.ensures ∙ c.if-not-active.false) c.field_bytes.ensures c.in-Item.ensures
 
 pub returns-in-Stop : goal.returns-in-Stop
 returns-in-Stop c = step_active c.args.over c.args.m.now c.args.field c.args.from _ _ (sym c.active.ensures ∙ c.if-not-active.false) c.field_bytes.ensures (sym c.in-Stop.is ∙ c.next_option.ensures)

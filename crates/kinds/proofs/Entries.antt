@@ -6,7 +6,7 @@ use native.Mathlib.Omega.{arith}
 use borrow.Author.Count.{below_more}
 use lib.Dec.{T}
 use mir.Facts.{and_yes, or_yes}
-use mir.Syntax.{Body, skip, seq, assign, block, loop, cond, switch, exit, return, call, Arms, arm, default, no_default}
+use mir.Syntax.{Body, skip, seq, assign, block, loop, cond, switch, exit, return, call, unreachable, call_v, lend_static, Arms, arm, default, no_default}
 use mir.Val.{has_key}
 use types.Run.{OneOf, hit}
 
@@ -27,6 +27,9 @@ arms_of (cond x a b) = no_default
 arms_of (exit n) = no_default
 arms_of return = no_default
 arms_of (call f xs p) = no_default
+arms_of unreachable = no_default
+arms_of (call_v a b c d) = no_default
+arms_of (lend_static a b c) = no_default
 
 -- ---- The last arm
 

@@ -13,20 +13,20 @@ abbrev arms : Arms
 arms = arms_of lts.body
 
 pub returns-in-3 : goal.returns-in-3
-returns-in-3 c = sym (list_3 _ (omega arith) c.in-3.keys1)
+returns-in-3 c = sym (list_3 _ (omega arith) c.in-3.is)
 
 pub returns-in-7 : goal.returns-in-7
-returns-in-7 c = sym (list_7 _ (omega arith) c.in-7.keys2)
+returns-in-7 c = sym (list_7 _ (omega arith) c.in-7.is)
 
 pub returns-in-10 : goal.returns-in-10
-returns-in-10 c = sym (list_10 _ (omega arith) c.in-10.keys3)
+returns-in-10 c = sym (list_10 _ (omega arith) c.in-10.is)
 
 pub returns-in-12 : goal.returns-in-12
-returns-in-12 c = sym (list_12 _ (omega arith) c.in-12.keys4)
+returns-in-12 c = sym (list_12 _ (omega arith) c.in-12.is)
 
 pub returns-in-13 : goal.returns-in-13
-returns-in-13 c = sym (list_13 _ (omega arith) c.in-13.keys5)
+returns-in-13 c = sym (list_13 _ (omega arith) c.in-13.is)
 
 pub returns-in_default : goal.returns-in_default
 returns-in_default c = let n = c.args.row in
-    sym (no_list n (omega arith) (unlisted listless arms (n % 16) tt (omega arith) c.in_default.rest))
+    sym (no_list n (omega arith) (unlisted listless arms (n % 16) tt (omega arith) c.in_default.in_default-own.rest))

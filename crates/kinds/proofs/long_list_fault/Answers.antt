@@ -31,18 +31,18 @@ others k = listless k || ltb k 12
 pub returns-in-12 : goal.returns-in-12
 unfolding value_fault_value
 returns-in-12 c = let n = c.args.row in
-    let k = c.in-12.keys1 in
+    let k = c.in-12.is in
     rw (le-leb 12 (n % 16) (omega (arith, k)), list_12 n (omega arith) k, value_12 n (omega arith) k) c.suboptions_fault.ensures
 
 pub returns-in-13 : goal.returns-in-13
 unfolding value_fault_value
 returns-in-13 c = let n = c.args.row in
-    let k = c.in-13.keys2 in
+    let k = c.in-13.is in
     rw (le-leb 12 (n % 16) (omega (arith, k)), list_13 n (omega arith) k, value_13 n (omega arith) k) c.first_fault.ensures
 
 pub returns-in_default : goal.returns-in_default
 returns-in_default c = let n = c.args.row in
-    elim (or_yes (listless (n % 16)) (ltb (n % 16) 12) (unlisted others arms (n % 16) tt (omega arith) c.in_default.rest)) [
+    elim (or_yes (listless (n % 16)) (ltb (n % 16) 12) (unlisted others arms (n % 16) tt (omega arith) c.in_default.in_default-own.rest)) [
       | inl h ↦ rw (no_list n (omega arith) h, cond_same (leb 12 (n % 16)))
       | inr h ↦ rw (lt-leb 12 (n % 16) (ltb-true (n % 16) 12 (true_of (ltb (n % 16) 12) h)))
     ]

@@ -7,12 +7,12 @@ use Rattle.kinds.proofs.number16_fits.Goals as goal
 
 pub returns-in-22 : goal.returns-in-22
 unfolding row_at
-returns-in-22 c = rw c.in-22.keys1
+returns-in-22 c = rw c.in-22.is
 
 pub returns-in-38 : goal.returns-in-38
 unfolding row_at
-returns-in-38 c = rw c.in-38.keys2
+returns-in-38 c = rw c.in-38.is
 
 pub returns-in_default : goal.returns-in_default
-returns-in_default c = let r = c.in_default.rest in
+returns-in_default c = let r = c.in_default.in_default-own.rest in
     rw (value_6 c.args.row (omega arith) c.requires (rw (ne_eqb _ _ r.0.1, ne_eqb _ _ r.1)))

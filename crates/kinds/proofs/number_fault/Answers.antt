@@ -16,15 +16,15 @@ arms = arms_of lts.body
 
 pub returns-in-4 : goal.returns-in-4
 unfolding value_fault_value
-returns-in-4 c = let k = c.in-4.keys1 in
+returns-in-4 c = let k = c.in-4.is in
     let e : c.from_to.result ≡ from_to_value 0 1 c.byte.result = c.from_to.ensures in
     rw (list_4 _ (omega arith) k, value_4 _ (omega arith) k, ← c.byte.ensures) (c.or_nine.ensures ∙ ap or_nine_value e)
 
 pub returns-in-5 : goal.returns-in-5
-returns-in-5 c = rw (list_5 c.args.row (omega arith) c.in-5.keys2, octet_rule c.args.row (omega arith) c.in-5.keys2 c.args.d.now, ← c.byte-in-5.ensures, ← c.octet_fits.ensures) c.or_nine-in-5.ensures
+returns-in-5 c = rw (list_5 c.args.row (omega arith) c.in-5.is, octet_rule c.args.row (omega arith) c.in-5.is c.args.d.now, ← c.byte-in-5.ensures, ← c.octet_fits.ensures) c.or_nine-in-5.ensures
 
 pub returns-in-6 : goal.returns-in-6
-returns-in-6 c = rw (list_6 c.args.row (omega arith) c.in-6.keys3, number16_rule c.args.row (omega arith) c.in-6.keys3 c.args.d.now, ← c.first16.ensures, ← c.number16_fits.ensures) c.or_nine-in-6.ensures
+returns-in-6 c = rw (list_6 c.args.row (omega arith) c.in-6.is, number16_rule c.args.row (omega arith) c.in-6.is c.args.d.now, ← c.first16.ensures, ← c.number16_fits.ensures) c.or_nine-in-6.ensures
 
 pub returns-in_default : goal.returns-in_default
-returns-in_default c = no_number c.args.row (omega arith) (unlisted numberless arms (c.args.row % 16) tt (omega arith) c.in_default.rest) c.args.d.now
+returns-in_default c = no_number c.args.row (omega arith) (unlisted numberless arms (c.args.row % 16) tt (omega arith) c.in_default.in_default-own.rest) c.args.d.now

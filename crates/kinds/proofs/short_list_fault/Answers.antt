@@ -39,21 +39,21 @@ returns-then-row-eq-ROW_33 c = let e : c.args.row ≡ 19 = omega (arith, c.if-ro
 
 pub returns-else-row-eq-ROW_33 : goal.returns-else-row-eq-ROW_33
 returns-else-row-eq-ROW_33 c = let n = c.args.row in
-    rw (short n 3 c.in-3.keys1 (omega arith), list_3 n (omega arith) c.in-3.keys1, ne_eqb n 19 (λ e. omega (arith, c.if-row-eq-ROW_33.false, c.in-3.keys1, e)))
+    rw (short n 3 c.in-3.is (omega arith), list_3 n (omega arith) c.in-3.is, ne_eqb n 19 (λ e. omega (arith, c.if-row-eq-ROW_33.false, c.in-3.is, e)))
 
 pub returns-in-7 : goal.returns-in-7
 unfolding value_fault_value
-returns-in-7 c = let k = c.in-7.keys2 in
+returns-in-7 c = let k = c.in-7.is in
     rw (short _ 7 k (omega arith), list_7 _ (omega arith) k, value_7 _ (omega arith) k, ← c.never_falling.ensures) c.or_nine-in-7.ensures
 
 pub returns-in-10 : goal.returns-in-10
 unfolding value_fault_value
-returns-in-10 c = let k = c.in-10.keys3 in
+returns-in-10 c = let k = c.in-10.is in
     rw (short _ 10 k (omega arith), list_10 _ (omega arith) k, value_10 _ (omega arith) k, ← c.text_fits.ensures) c.or_nine-in-10.ensures
 
 pub returns-in_default : goal.returns-in_default
 returns-in_default c = let n = c.args.row in
-    elim (or_yes (listless (n % 16)) (leb 12 (n % 16)) (unlisted others arms (n % 16) tt (omega arith) c.in_default.rest)) [
+    elim (or_yes (listless (n % 16)) (leb 12 (n % 16)) (unlisted others arms (n % 16) tt (omega arith) c.in_default.in_default-own.rest)) [
       | inl h ↦ rw (no_list n (omega arith) h, cond_same (leb 12 (n % 16)))
       | inr h ↦ rw (true_of (leb 12 (n % 16)) h)
     ]

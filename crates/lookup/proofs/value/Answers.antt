@@ -12,52 +12,52 @@ use Rattle.lookup.proofs.value.Goals as goal
 
 pub returns-in-1 : goal.returns-in-1
 unfolding value_of meaning
-returns-in-1 c = rw (c.first32.ensures, c.in-1.keys1)
+returns-in-1 c = rw (c.first32.ensures, c.in-1.is)
 
 pub returns-in-2 : goal.returns-in-2
 unfolding value_of meaning
-returns-in-2 c = rw c.in-2.keys2
+returns-in-2 c = rw c.in-2.is
 
 pub returns-in-3 : goal.returns-in-3
 unfolding value_of meaning
-returns-in-3 c = rw c.in-3.keys3
+returns-in-3 c = rw c.in-3.is
 
 pub returns-in-4 : goal.returns-in-4
 unfolding value_of meaning
-returns-in-4 c = rw (c.byte.ensures, c.in-4.keys4)
+returns-in-4 c = rw (c.byte.ensures, c.in-4.is)
 
 pub returns-in-5 : goal.returns-in-5
 unfolding value_of meaning
-returns-in-5 c = rw (c.byte-in-5.ensures, c.in-5.keys5)
+returns-in-5 c = rw (c.byte-in-5.ensures, c.in-5.is)
 
 pub returns-in-6 : goal.returns-in-6
 unfolding value_of meaning
-returns-in-6 c = rw (c.first16.ensures, c.in-6.keys6)
+returns-in-6 c = rw (c.first16.ensures, c.in-6.is)
 
 pub returns-in-7 : goal.returns-in-7
 unfolding value_of meaning
-returns-in-7 c = rw c.in-7.keys7
+returns-in-7 c = rw c.in-7.is
 
 pub returns-in-8 : goal.returns-in-8
 unfolding value_of meaning
-returns-in-8 c = rw (c.first32-in-8.ensures, c.in-8.keys8)
+returns-in-8 c = rw (c.first32-in-8.ensures, c.in-8.is)
 
 pub returns-in-9 : goal.returns-in-9
 unfolding value_of meaning
-returns-in-9 c = rw (c.in-9.keys9, ← c.first32-in-9.ensures, ← c.signed.ensures) (let e : to_z w32 (of_z w32 c.signed.result) ≡ c.signed.result = search rules in ap (λ (z : ℤ). known (number signed32 z)) e)
+returns-in-9 c = rw (c.in-9.is, ← c.first32-in-9.ensures, ← c.signed.ensures) (let e : to_z w32 (of_z w32 c.signed.result) ≡ c.signed.result = search rules in ap (λ (z : ℤ). known (number signed32 z)) e)
 
 pub returns-in-10 : goal.returns-in-10
 unfolding value_of meaning
-returns-in-10 c = rw (c.text_len.ensures, c.in-10.keys10)
+returns-in-10 c = rw (c.text_len.ensures, c.in-10.is)
 
 pub returns-in-12 : goal.returns-in-12
 unfolding value_of meaning
-returns-in-12 c = rw c.in-12.keys11
+returns-in-12 c = rw c.in-12.is
 
 pub returns-in-13 : goal.returns-in-13
 unfolding value_of meaning
-returns-in-13 c = rw c.in-13.keys12
+returns-in-13 c = rw c.in-13.is
 
 pub returns-in_default : goal.returns-in_default
 unfolding value_of meaning
-returns-in_default c = rw (else_opaque c.args.k c.in_default.rest.0.0 c.in_default.rest.0.1 c.in_default.rest.1)
+returns-in_default c = rw (else_opaque c.args.k c.in_default.in_default-own.rest.0.0 c.in_default.in_default-own.rest.0.1 c.in_default.in_default-own.rest.1)

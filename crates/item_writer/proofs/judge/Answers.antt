@@ -16,28 +16,28 @@ pub loop-tag-init : goal.loop-tag-init
 loop-tag-init c = begins c.args.marked c.args.s.now
 
 pub returns-in-End : goal.returns-in-End
-returns-in-End c = ends c.loop-tag.invariant (sym c.in-End.is ∙ c.next_record.ensures)
+returns-in-End c = ends c.loop-tag.invariant c.in-End.ensures
 
 pub returns-in-Cut : goal.returns-in-Cut
-returns-in-Cut c = c.faulty.ensures ∙ cut_off c.loop-tag.invariant (sym c.in-Cut.is ∙ c.next_record.ensures)
+returns-in-Cut c = c.faulty.ensures ∙ cut_off c.loop-tag.invariant c.in-Cut.ensures
 
 pub returns-then-number-ne0 : goal.returns-then-number-ne0
-returns-then-number-ne0 c = c.faulty-then-number-ne0.ensures ∙ refuses c.loop-tag.invariant (c.tag-1.given.0.0) (c.tag-1.given.0.1.0) ((let is_record₁ : Record (c.tag-1.given.0.0) (c.tag-1.given.0.1.0) ≡ step_of (records_from c.loop-tag.at 0 (drop c.loop-tag.at (c.args.s.now))) = sym c.tag-1.given.1 ∙ c.next_record.ensures in is_record₁)) c.broken_rule-number.result c.broken_rule-number.ensures c.if-number-ne0.true
+returns-then-number-ne0 c = c.faulty-then-number-ne0.ensures ∙ refuses c.loop-tag.invariant c.in-Record.tag c.in-Record.size c.in-Record.ensures c.broken_rule-number.result c.broken_rule-number.ensures c.if-number-ne0.true
 
 pub overflow_add-total : goal.overflow_add-total
-overflow_add-total c = omega (arith, (let within₁ : c.loop-tag.at + 3 + c.tag-1.given.0.1.0 ≤ length (c.args.s.now) = room c.loop-tag.invariant (c.tag-1.given.0.0) (c.tag-1.given.0.1.0) ((let is_record₁ : Record (c.tag-1.given.0.0) (c.tag-1.given.0.1.0) ≡ step_of (records_from c.loop-tag.at 0 (drop c.loop-tag.at (c.args.s.now))) = sym c.tag-1.given.1 ∙ c.next_record.ensures in is_record₁)) in within₁), (let few₁ : c.loop-tag.total ≤ c.loop-tag.at = c.loop-tag.invariant.few in few₁))
+overflow_add-total c = omega (arith, room c.loop-tag.invariant c.in-Record.tag c.in-Record.size c.in-Record.ensures, c.loop-tag.invariant.few)
 
 pub overflow_add-total-in-Record : goal.overflow_add-total-in-Record
-overflow_add-total-in-Record c = omega (arith, (let within₁ : c.loop-tag.at + 3 + c.tag-1.given.0.1.0 ≤ length (c.args.s.now) = room c.loop-tag.invariant (c.tag-1.given.0.0) (c.tag-1.given.0.1.0) ((let is_record₁ : Record (c.tag-1.given.0.0) (c.tag-1.given.0.1.0) ≡ step_of (records_from c.loop-tag.at 0 (drop c.loop-tag.at (c.args.s.now))) = sym c.tag-1.given.1 ∙ c.next_record.ensures in is_record₁)) in within₁), (let few₁ : c.loop-tag.total ≤ c.loop-tag.at = c.loop-tag.invariant.few in few₁))
+overflow_add-total-in-Record c = omega (arith, room c.loop-tag.invariant c.in-Record.tag c.in-Record.size c.in-Record.ensures, c.loop-tag.invariant.few)
 
 pub overflow_add-at : goal.overflow_add-at
-overflow_add-at c = omega (arith, (let within₁ : c.loop-tag.at + 3 + c.tag-1.given.0.1.0 ≤ length (c.args.s.now) = room c.loop-tag.invariant (c.tag-1.given.0.0) (c.tag-1.given.0.1.0) ((let is_record₁ : Record (c.tag-1.given.0.0) (c.tag-1.given.0.1.0) ≡ step_of (records_from c.loop-tag.at 0 (drop c.loop-tag.at (c.args.s.now))) = sym c.tag-1.given.1 ∙ c.next_record.ensures in is_record₁)) in within₁))
+overflow_add-at c = omega (arith, room c.loop-tag.invariant c.in-Record.tag c.in-Record.size c.in-Record.ensures)
 
 pub overflow_add-at-in-Record : goal.overflow_add-at-in-Record
-overflow_add-at-in-Record c = omega (arith, (let within₁ : c.loop-tag.at + 3 + c.tag-1.given.0.1.0 ≤ length (c.args.s.now) = room c.loop-tag.invariant (c.tag-1.given.0.0) (c.tag-1.given.0.1.0) ((let is_record₁ : Record (c.tag-1.given.0.0) (c.tag-1.given.0.1.0) ≡ step_of (records_from c.loop-tag.at 0 (drop c.loop-tag.at (c.args.s.now))) = sym c.tag-1.given.1 ∙ c.next_record.ensures in is_record₁)) in within₁))
+overflow_add-at-in-Record c = omega (arith, room c.loop-tag.invariant c.in-Record.tag c.in-Record.size c.in-Record.ensures)
 
 pub loop-tag-smaller : goal.loop-tag-smaller
-loop-tag-smaller c = omega (arith, (let within₁ : c.loop-tag.at + 3 + c.tag-1.given.0.1.0 ≤ length (c.args.s.now) = room c.loop-tag.invariant (c.tag-1.given.0.0) (c.tag-1.given.0.1.0) ((let is_record₁ : Record (c.tag-1.given.0.0) (c.tag-1.given.0.1.0) ≡ step_of (records_from c.loop-tag.at 0 (drop c.loop-tag.at (c.args.s.now))) = sym c.tag-1.given.1 ∙ c.next_record.ensures in is_record₁)) in within₁))
+loop-tag-smaller c = omega (arith, room c.loop-tag.invariant c.in-Record.tag c.in-Record.size c.in-Record.ensures)
 
 pub loop-tag-preserved : goal.loop-tag-preserved
-loop-tag-preserved c = moves c.loop-tag.invariant (c.tag-1.given.0.0) (c.tag-1.given.0.1.0) ((let is_record₁ : Record (c.tag-1.given.0.0) (c.tag-1.given.0.1.0) ≡ step_of (records_from c.loop-tag.at 0 (drop c.loop-tag.at (c.args.s.now))) = sym c.tag-1.given.1 ∙ c.next_record.ensures in is_record₁)) c.broken_rule-number.result c.broken_rule-number.ensures c.if-number-ne0.false
+loop-tag-preserved c = moves c.loop-tag.invariant c.in-Record.tag c.in-Record.size c.in-Record.ensures c.broken_rule-number.result c.broken_rule-number.ensures c.if-number-ne0.false

@@ -32,11 +32,11 @@ overflow_sub-result-then-left-size c = omega (arith, c.requires.2, c.loop-place.
 
 pub returns-then-left-size : goal.returns-then-left-size
 returns-then-left-size c = let x = (let after₁ : Turn (c.args.s.now) c.args.single c.loop-place.place c.args.inside c.wide-size.result = turn (c.args.s.now) c.args.single c.loop-place.place c.args.inside c.loop-place.invariant.0.between c.loop-place.invariant.1 c.loop-place-test.true c.wide-size.result c.wide-size.ensures.0 in after₁) in
-    let z : fits c.loop-place.false (pieces_left (c.args.s.now) c.loop-place.place c.args.inside) ≡ 0 = no_room c.loop-place.false (c.args.s.now) c.loop-place.place c.args.inside _ _ _ x.piece c.if-left-size.true in
+    let z : fits c.loop-place.left (pieces_left (c.args.s.now) c.loop-place.place c.args.inside) ≡ 0 = no_room c.loop-place.left (c.args.s.now) c.loop-place.place c.args.inside _ _ _ x.piece c.if-left-size.true in
     let o : From (c.args.s.now) (left_over c.args.room (pieces_left (c.args.s.now) c.args.from c.args.inside)) c.loop-place.place c.args.inside =
-    counted _ (c.args.s.now) c.args.from c.args.inside c.loop-place.place c.args.inside c.loop-place.false c.loop-place.invariant.0 z in
+    counted _ (c.args.s.now) c.args.from c.args.inside c.loop-place.place c.args.inside c.loop-place.left c.loop-place.invariant.0 z in
     let d : c.args.inside ≡ 0 = x.none_done in (
-      record { onward = c.loop-place.invariant.0.onward; from = subst (From (c.args.s.now) (left_over c.args.room (pieces_left (c.args.s.now) c.args.from c.args.inside)) c.loop-place.place) d o; total = (let less₁ : c.args.total - (c.args.room - c.loop-place.false) ≡ sizes (pieces_left (c.args.s.now) c.loop-place.place c.args.inside) = omega (arith, c.requires.2, c.loop-place.invariant.0.sum) in less₁) ∙ ap sizes o.pieces },
+      record { onward = c.loop-place.invariant.0.onward; from = subst (From (c.args.s.now) (left_over c.args.room (pieces_left (c.args.s.now) c.args.from c.args.inside)) c.loop-place.place) d o; total = (let less₁ : c.args.total - (c.args.room - c.loop-place.left) ≡ sizes (pieces_left (c.args.s.now) c.loop-place.place c.args.inside) = omega (arith, c.requires.2, c.loop-place.invariant.0.sum) in less₁) ∙ ap sizes o.pieces },
       subst (Single (c.args.s.now) c.args.single c.loop-place.place) d c.loop-place.invariant.1,
     )
 
@@ -53,7 +53,7 @@ pub loop-place-smaller : goal.loop-place-smaller
 loop-place-smaller c = omega (arith, ((let after₁ : Turn (c.args.s.now) c.args.single c.loop-place.place c.args.inside c.wide-size.result = turn (c.args.s.now) c.args.single c.loop-place.place c.args.inside c.loop-place.invariant.0.between c.loop-place.invariant.1 c.loop-place-test.true c.wide-size.result c.wide-size.ensures.0 in after₁)).within)
 
 pub loop-place-preserved : goal.loop-place-preserved
-loop-place-preserved c = (counting_more _ _ _ _ c.loop-place.place _ c.loop-place.false _ _ _ c.loop-place.invariant.0 ((let after₁ : Turn (c.args.s.now) c.args.single c.loop-place.place c.args.inside c.wide-size.result = turn (c.args.s.now) c.args.single c.loop-place.place c.args.inside c.loop-place.invariant.0.between c.loop-place.invariant.1 c.loop-place-test.true c.wide-size.result c.wide-size.ensures.0 in after₁)).piece (omega arith) c.if-left-size.false, ((let after₁ : Turn (c.args.s.now) c.args.single c.loop-place.place c.args.inside c.wide-size.result = turn (c.args.s.now) c.args.single c.loop-place.place c.args.inside c.loop-place.invariant.0.between c.loop-place.invariant.1 c.loop-place-test.true c.wide-size.result c.wide-size.ensures.0 in after₁)).singles)
+loop-place-preserved c = (counting_more _ _ _ _ c.loop-place.place _ c.loop-place.left _ _ _ c.loop-place.invariant.0 ((let after₁ : Turn (c.args.s.now) c.args.single c.loop-place.place c.args.inside c.wide-size.result = turn (c.args.s.now) c.args.single c.loop-place.place c.args.inside c.loop-place.invariant.0.between c.loop-place.invariant.1 c.loop-place-test.true c.wide-size.result c.wide-size.ensures.0 in after₁)).piece (omega arith) c.if-left-size.false, ((let after₁ : Turn (c.args.s.now) c.args.single c.loop-place.place c.args.inside c.wide-size.result = turn (c.args.s.now) c.args.single c.loop-place.place c.args.inside c.loop-place.invariant.0.between c.loop-place.invariant.1 c.loop-place-test.true c.wide-size.result c.wide-size.ensures.0 in after₁)).singles)
 
 pub overflow_sub-room : goal.overflow_sub-room
 overflow_sub-room c = c.loop-place.invariant.0.within
@@ -62,11 +62,11 @@ pub overflow_sub-total : goal.overflow_sub-total
 overflow_sub-total c = omega (arith, c.requires.2, c.loop-place.invariant.0.sum)
 
 pub rest_pieces-requires : goal.rest_pieces-requires
-rest_pieces-requires c = (c.loop-place.invariant.0.between, (let less₁ : c.args.total - (c.args.room - c.loop-place.false) ≡ sizes (pieces_left (c.args.s.now) c.loop-place.place c.args.inside) = omega (arith, c.requires.2, c.loop-place.invariant.0.sum) in less₁))
+rest_pieces-requires c = (c.loop-place.invariant.0.between, (let less₁ : c.args.total - (c.args.room - c.loop-place.left) ≡ sizes (pieces_left (c.args.s.now) c.loop-place.place c.args.inside) = omega (arith, c.requires.2, c.loop-place.invariant.0.sum) in less₁))
 
 pub returns : goal.returns
 returns c = let r = c.rest_pieces.ensures in
-    let e : left_over c.loop-place.false (pieces_left (c.args.s.now) c.loop-place.place c.args.inside) ≡ left_over c.args.room (pieces_left (c.args.s.now) c.args.from c.args.inside) = c.loop-place.invariant.0.rest in (
+    let e : left_over c.loop-place.left (pieces_left (c.args.s.now) c.loop-place.place c.args.inside) ≡ left_over c.args.room (pieces_left (c.args.s.now) c.args.from c.args.inside) = c.loop-place.invariant.0.rest in (
       record { from = record { pieces = r.from.pieces ∙ e; between = r.from.between }; onward = omega (arith, c.loop-place.invariant.0.onward, r.onward); total = r.total ∙ ap sizes e },
       λ z. absurd (omega (arith, z, c.loop-place-test.false, r.onward)),
     )

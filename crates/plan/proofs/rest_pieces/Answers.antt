@@ -1,6 +1,5 @@
 -- `plan::rest_pieces` meets its contract. Assumes nothing.
 use mathlib.Core.Path.{◌≡◌, ap, ◌∙◌}
-use mathlib.Core.Logic.{⊎_elim}
 use mathlib.Core.List.{List}
 use Prim.Native.Nat.{ℕ, ◌+◌, ◌-◌, ◌^◌, ◌<◌}
 use native.Mathlib.Omega.{arith}
@@ -11,6 +10,7 @@ use Rattle.plan.specs.Steps.{sizes, left_over, From}
 use Rattle.plan.proofs.Counting.{head_at, piece_at, at_end_lem, no_room, Counting, counting_none, counting_more, counted}
 use borrow.Author.Rules.{rules}
 use Rattle.plan.proofs.rest_pieces.Goals as goal
+use Rattle.plan.proofs.rest_pieces.Goals.{else-loop-place-test, then-loop-place-test+then-left-size}
 
 pub loop-place-init : goal.loop-place-init
 loop-place-init c = counting_none _ c.args.s.now c.args.from c.args.inside c.requires.0
@@ -32,7 +32,7 @@ pub loop-place-smaller : goal.loop-place-smaller
 loop-place-smaller c = omega (arith, ((let piece₁ : Piece (c.args.s.now) c.loop-place.place c.loop-place.done c.piece_here-piece.result.size (c.loop-place.place + c.piece_here-piece.result.ahead) c.piece_here-piece.result.done = piece_at (c.args.s.now) c.loop-place.place c.loop-place.done c.piece_here-piece.result c.loop-place.invariant.between c.loop-place-test.true c.piece_here-piece.ensures in piece₁)).further, ((let piece₁ : Piece (c.args.s.now) c.loop-place.place c.loop-place.done c.piece_here-piece.result.size (c.loop-place.place + c.piece_here-piece.result.ahead) c.piece_here-piece.result.done = piece_at (c.args.s.now) c.loop-place.place c.loop-place.done c.piece_here-piece.result c.loop-place.invariant.between c.loop-place-test.true c.piece_here-piece.ensures in piece₁)).within)
 
 pub loop-place-preserved : goal.loop-place-preserved
-loop-place-preserved c = counting_more _ _ _ _ c.loop-place.place c.loop-place.done c.loop-place.false _ _ _ c.loop-place.invariant ((let piece₁ : Piece (c.args.s.now) c.loop-place.place c.loop-place.done c.piece_here-piece.result.size (c.loop-place.place + c.piece_here-piece.result.ahead) c.piece_here-piece.result.done = piece_at (c.args.s.now) c.loop-place.place c.loop-place.done c.piece_here-piece.result c.loop-place.invariant.between c.loop-place-test.true c.piece_here-piece.ensures in piece₁)) (omega arith) c.if-left-size.false
+loop-place-preserved c = counting_more _ _ _ _ c.loop-place.place c.loop-place.done c.loop-place.left _ _ _ c.loop-place.invariant ((let piece₁ : Piece (c.args.s.now) c.loop-place.place c.loop-place.done c.piece_here-piece.result.size (c.loop-place.place + c.piece_here-piece.result.ahead) c.piece_here-piece.result.done = piece_at (c.args.s.now) c.loop-place.place c.loop-place.done c.piece_here-piece.result c.loop-place.invariant.between c.loop-place-test.true c.piece_here-piece.ensures in piece₁)) (omega arith) c.if-left-size.false
 
 pub overflow_sub-result : goal.overflow_sub-result
 overflow_sub-result c = c.loop-place.invariant.within
@@ -42,12 +42,13 @@ overflow_sub-result-2 c = omega (arith, c.requires.1, c.loop-place.invariant.sum
 
 pub returns : goal.returns
 returns c = let s : List ℕ = c.args.s.now in
-    let z : fits c.loop-place.false (pieces_left s c.loop-place.place c.loop-place.done) ≡ 0 =
-    ⊎_elim (λ w. at_end_lem c.loop-place.false s c.loop-place.place c.loop-place.done w.left)
-    (λ w. no_room c.loop-place.false s c.loop-place.place c.loop-place.done _ _ _
-    (piece_at s c.loop-place.place c.loop-place.done w.1.result c.loop-place.invariant.between w.0.taken w.1.ensures) w.3.taken)
-    c.loop-place-test.branch in
+    let z : fits c.loop-place.left (pieces_left s c.loop-place.place c.loop-place.done) ≡ 0 =
+    elim c.loop-place-test.branch [
+      | else-loop-place-test w ↦ at_end_lem c.loop-place.left s c.loop-place.place c.loop-place.done w.loop-place-test.false
+      | then-loop-place-test+then-left-size w ↦ no_room c.loop-place.left s c.loop-place.place c.loop-place.done _ _ _
+          (piece_at s c.loop-place.place c.loop-place.done w.piece_here-piece.result c.loop-place.invariant.between w.loop-place-test.true w.piece_here-piece.ensures) w.if-left-size.true
+    ] in
     let o : From s (left_over c.args.room (pieces_left s c.args.from c.args.inside)) c.loop-place.place c.loop-place.done =
-    counted _ s c.args.from c.args.inside c.loop-place.place c.loop-place.done c.loop-place.false c.loop-place.invariant z in
-    let n : c.args.total - (c.args.room - c.loop-place.false) ≡ sizes (pieces_left s c.loop-place.place c.loop-place.done) = omega (arith, c.requires.1, c.loop-place.invariant.sum) in
+    counted _ s c.args.from c.args.inside c.loop-place.place c.loop-place.done c.loop-place.left c.loop-place.invariant z in
+    let n : c.args.total - (c.args.room - c.loop-place.left) ≡ sizes (pieces_left s c.loop-place.place c.loop-place.done) = omega (arith, c.requires.1, c.loop-place.invariant.sum) in
     record { from = o; onward = c.loop-place.invariant.onward; total = n ∙ ap sizes o.pieces }

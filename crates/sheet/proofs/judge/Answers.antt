@@ -1,9 +1,8 @@
 -- `sheet::judge` meets its contract: at each turn what is left of the sheet gives the verdict on the whole. Assumes nothing.
 use borrow.Author.Rules.{rules}
-use mathlib.Core.Path.{◌≡◌, sym, ap, ap₂, ◌∙◌, subst}
-use mathlib.Core.Bool.{Bool, true, false, cond}
-use mathlib.Core.Logic.{⊎_elim}
 use borrow.Author.Tests.{lt-ltb, le-ltb, ne_eqb}
+use mathlib.Core.Path.{◌≡◌, refl, sym, ap, ◌∙◌}
+use mathlib.Core.Bool.{Bool, true, false, cond}
 use mathlib.Core.List.{List}
 use Prim.Native.Nat.{ℕ, ◌+◌, ◌-◌, ◌^◌, ◌≤◌, ◌<◌}
 use native.Mathlib.Omega.{arith}
@@ -15,75 +14,130 @@ use Rattle.options.specs.SheetWalk.{records_from}
 use Rattle.kinds.specs.Numbers.{fault_of}
 use Rattle.sheet.specs.Steps.{step_of}
 use Rattle.sheet.specs.Judge.{judge_of, faulty_at}
-use Rattle.sheet.specs.Parts.{no_tags, met_number, met_broken, further, lower, Sums, sums_after, three_after_value, one_after_value, relay_after_value}
+use Rattle.sheet.specs.Parts.{no_tags, met_number, met_broken, further, lower, Sums, three_after_value, one_after_value, relay_after_value}
 use Rattle.sheet.specs.declared.Step.TheVariants.{Record}
 use Rattle.sheet.specs.declared.Low.{Low}
 use Rattle.sheet.specs.declared.High.{High}
-use Rattle.sheet.proofs.Steps.{stepped}
-use Rattle.sheet.proofs.Judging.{Judging, part_is, begins, ends, cut_off, too_long, refuses, moves}
+use Rattle.sheet.proofs.Judging.{Judging, begins, ends, cut_off, too_long, room, refuses, moves}
 use Rattle.sheet.proofs.ThreeOne.{sums}
 use Rattle.sheet.proofs.judge.Goals as goal
+use Rattle.sheet.proofs.judge.Goals.{then-size-gt255+else-size-gt1024, else-size-gt255, then-tag-gt-LAST+else-r-ne0, else-tag-gt-LAST+else-r-ne0-2}
 
 some_number : (b : Bool) → cond {A = ℕ} b 10 7 ≡ 0 → ⊥
 some_number true z = omega arith
 some_number false z = omega arith
 
--- ---- The needs
+-- a record of at most 255 bytes is one piece
+no_further : (t n : ℕ) → n ≤ 255 → t ≡ t + further n
+no_further t n h = omega arith
+
+-- ---- A record with tag c and n bytes of data, at `at`
+module _ (s w : List ℕ) (three : ℕ) (one : Bool) (total single relay at : ℕ) (f : Judging s w three one (sums total single relay) at) (c n : ℕ) (e : Record c n ≡ step_of (records_from at 0 (drop at s))) where
+  abbrev body : List ℕ
+  body = take n (drop (at + 3) s)
+
+  abbrev x : Sums
+  x = sums total single relay
+
+  -- the first rule that it breaks, or 0, has number k, its tag being met or not
+  breaks : (met : Bool) (k : ℕ) → met ≡ marked w c → k ≡ met_broken met c body → k ≡ met_broken (marked w c) c body
+  breaks met k m q = rw (sym m) q
+
+  refused : n ≤ 1024 → c < 256 → (met : Bool) (k : ℕ) → met ≡ marked w c → k ≡ met_broken met c body → (k ≡ 0 → ⊥) → faulty_at k at ≡ judge_of s
+  refused short small met k m q z = refuses s w three one x at f c n e short small k (breaks met k m q) z
+
+  abbrev relay_now : ℕ
+  relay_now = relay_after_value relay c (at + 1) (ltb (at + (3 + n)) (length s))
+
+  -- a tag above 76 is neither 3 nor 1, one up to 76 is not 82
+  three_high : 76 < c → three_after_value three one c (at + 1) ≡ three
+  three_high h = rw (ne_eqb c 3 (λ q. omega (arith, q, h)))
+
+  one_high : 76 < c → one_after_value one c ≡ one
+  one_high h = rw (ne_eqb c 1 (λ q. omega (arith, q, h)))
+
+  relay_low : c ≤ 76 → relay_now ≡ relay
+  relay_low h = rw (ne_eqb c 82 (λ q. omega (arith, q, h)))
+
+  settled : n ≤ 1024 → c < 256 → (k : ℕ) → false ≡ marked w c → k ≡ fault_of c body → k ≡ 0
+      → (w' : List ℕ) → w' ≡ with_mark w c
+      → (t g : ℕ) → t ≡ total + further n → g ≡ cond (ltb 255 n) (lower at single) single
+      → (three' : ℕ) (one' : Bool) (relay' : ℕ) → three' ≡ three_after_value three one c (at + 1) → one' ≡ one_after_value one c → relay' ≡ relay_now
+      → Judging s w' three' one' (sums (t - 1) g relay') (at + n + 3)
+  settled short small k m q z w' i t g p r three' one' relay' a b d =
+      let next : at + 3 + n ≡ at + n + 3 = omega arith in
+      rw (i, p, r, a, b, d, sym next) (moves s w three one x at f c n e short small k (breaks false k m q) z)
+
+-- ---- The answers
+
 pub loop-tag-init : goal.loop-tag-init
 loop-tag-init c = begins c.args.s.now
 
 pub returns-in-End : goal.returns-in-End
-returns-in-End c = c.order.ensures ∙ ends (c.args.s.now) c.loop-tag.seen c.loop-tag.three c.loop-tag.one (sums c.loop-tag.total c.loop-tag.single c.loop-tag.relay) c.loop-tag.at c.loop-tag.invariant (sym c.in-End.is ∙ c.next_record.ensures)
+returns-in-End c = c.order.ensures ∙ ends c.args.s.now c.loop-tag.seen c.loop-tag.three c.loop-tag.one (sums c.loop-tag.total c.loop-tag.single c.loop-tag.relay) c.loop-tag.at c.loop-tag.invariant c.in-End.ensures
 
 pub returns-in-Cut : goal.returns-in-Cut
-returns-in-Cut c = c.faulty.ensures ∙ cut_off (c.args.s.now) c.loop-tag.seen c.loop-tag.three c.loop-tag.one (sums c.loop-tag.total c.loop-tag.single c.loop-tag.relay) c.loop-tag.at c.loop-tag.invariant (sym c.in-Cut.is ∙ c.next_record.ensures)
+returns-in-Cut c = c.faulty.ensures ∙ cut_off c.args.s.now c.loop-tag.seen c.loop-tag.three c.loop-tag.one (sums c.loop-tag.total c.loop-tag.single c.loop-tag.relay) c.loop-tag.at c.loop-tag.invariant c.in-Cut.ensures
 
 pub returns-then-size-gt1024 : goal.returns-then-size-gt1024
-returns-then-size-gt1024 c = rw (c.faulty-then-size-gt1024.ensures, c.long_fault.ensures)
-    (too_long (c.args.s.now) c.loop-tag.seen c.loop-tag.three c.loop-tag.one (sums c.loop-tag.total c.loop-tag.single c.loop-tag.relay) c.loop-tag.at c.loop-tag.invariant (c.tag-1.given.0.0) (c.tag-1.given.0.1.0) ((let is_record₁ : Record (c.tag-1.given.0.0) (c.tag-1.given.0.1.0) ≡ step_of (records_from c.loop-tag.at 0 (drop c.loop-tag.at (c.args.s.now))) = sym c.tag-1.given.1 ∙ c.next_record.ensures in is_record₁)) c.if-size-gt1024.true)
-
-pub further-total-requires : goal.further-total-requires
-further-total-requires c = c.if-size-gt1024.false
+returns-then-size-gt1024 c =
+    rw (c.faulty-then-size-gt1024.ensures, c.long_fault.ensures)
+    (too_long c.args.s.now c.loop-tag.seen c.loop-tag.three c.loop-tag.one (sums c.loop-tag.total c.loop-tag.single c.loop-tag.relay) c.loop-tag.at c.loop-tag.invariant c.in-Record.tag c.in-Record.size c.in-Record.ensures c.if-size-gt1024.true)
 
 pub overflow_add-total : goal.overflow_add-total
-overflow_add-total c = let bound : length (c.args.s.now) < 2 ^ 63 = search rules in
-    omega (arith, bound, (let room_in₁ : c.loop-tag.at + 3 + c.tag-1.given.0.1.0 ≤ length (c.args.s.now) = (stepped (c.args.s.now) c.loop-tag.at (Record (c.tag-1.given.0.0) (c.tag-1.given.0.1.0)) ((let is_record₁ : Record (c.tag-1.given.0.0) (c.tag-1.given.0.1.0) ≡ step_of (records_from c.loop-tag.at 0 (drop c.loop-tag.at (c.args.s.now))) = sym c.tag-1.given.1 ∙ c.next_record.ensures in is_record₁))).1.0 in room_in₁), c.loop-tag.invariant.most, c.further-total.ensures.1)
+overflow_add-total c =
+    let bound : length c.args.s.now < 2 ^ 63 = search rules in
+    omega (arith, bound, room c.args.s.now c.loop-tag.seen c.loop-tag.three c.loop-tag.one (sums c.loop-tag.total c.loop-tag.single c.loop-tag.relay) c.loop-tag.at c.loop-tag.invariant c.in-Record.tag c.in-Record.size c.in-Record.ensures, c.loop-tag.invariant.most, c.further-total.ensures.1)
 
 pub returns-then-met : goal.returns-then-met
-returns-then-met c = let tag = c.tag-1.given.0.0 in
-    let q : (let Breaks₁ : ℕ → Type 0 = λ k. k ≡ met_broken (marked c.loop-tag.seen (c.tag-1.given.0.0)) (c.tag-1.given.0.0) ((take (c.tag-1.given.0.1.0) (drop (c.loop-tag.at + 3) (c.args.s.now)))) in Breaks₁ (met_number tag)) = rw (sym c.met.ensures.1.0 ∙ c.if-met.true) in
-    rw (c.faulty-then-met.ensures, c.met_fault.ensures) ((let refused₁ : (k : ℕ) → (let Breaks₁ : ℕ → Type 0 = λ k. k ≡ met_broken (marked c.loop-tag.seen (c.tag-1.given.0.0)) (c.tag-1.given.0.0) ((take (c.tag-1.given.0.1.0) (drop (c.loop-tag.at + 3) (c.args.s.now)))) in Breaks₁ k) → (k ≡ 0 → ⊥) → faulty_at k c.loop-tag.at ≡ judge_of (c.args.s.now) = λ k q z. refuses (c.args.s.now) c.loop-tag.seen c.loop-tag.three c.loop-tag.one (sums c.loop-tag.total c.loop-tag.single c.loop-tag.relay) c.loop-tag.at c.loop-tag.invariant (c.tag-1.given.0.0) (c.tag-1.given.0.1.0) ((let is_record₁ : Record (c.tag-1.given.0.0) (c.tag-1.given.0.1.0) ≡ step_of (records_from c.loop-tag.at 0 (drop c.loop-tag.at (c.args.s.now))) = sym c.tag-1.given.1 ∙ c.next_record.ensures in is_record₁)) ((let short₁ : c.tag-1.given.0.1.0 ≤ 1024 = ⊎_elim (λ w. w.1.left) (λ w. omega (arith, w.0.left)) c.if-size-gt255.branch in short₁)) c.met.ensures.1.1 k q z in refused₁ (met_number tag) q (some_number (among tag no_tags))))
+returns-then-met c =
+    let short : c.in-Record.size ≤ 1024 = elim c.if-size-gt255.branch [ then-size-gt255+else-size-gt1024 w ↦ w.if-size-gt1024.false | else-size-gt255 w ↦ omega (arith, w.if-size-gt255.false) ] in
+    let again : true ≡ marked c.loop-tag.seen c.in-Record.tag = sym c.if-met.true ∙ c.met.ensures.1.0 in
+    rw (c.faulty-then-met.ensures, c.met_fault.ensures) (refused c.args.s.now c.loop-tag.seen c.loop-tag.three c.loop-tag.one c.loop-tag.total c.loop-tag.single c.loop-tag.relay c.loop-tag.at c.loop-tag.invariant c.in-Record.tag c.in-Record.size c.in-Record.ensures short c.met.ensures.1.1 true (met_number c.in-Record.tag) again refl (some_number (among c.in-Record.tag no_tags)))
 
 pub high_record-r-requires : goal.high_record-r-requires
-high_record-r-requires c = (omega (arith, c.if-tag-gt-LAST.true), omega (arith, (let room_in₁ : c.loop-tag.at + 3 + c.tag-1.given.0.1.0 ≤ length (c.args.s.now) = (stepped (c.args.s.now) c.loop-tag.at (Record (c.tag-1.given.0.0) (c.tag-1.given.0.1.0)) ((let is_record₁ : Record (c.tag-1.given.0.0) (c.tag-1.given.0.1.0) ≡ step_of (records_from c.loop-tag.at 0 (drop c.loop-tag.at (c.args.s.now))) = sym c.tag-1.given.1 ∙ c.next_record.ensures in is_record₁))).1.0 in room_in₁)))
+high_record-r-requires c = (omega arith, room c.args.s.now c.loop-tag.seen c.loop-tag.three c.loop-tag.one (sums c.loop-tag.total c.loop-tag.single c.loop-tag.relay) c.loop-tag.at c.loop-tag.invariant c.in-Record.tag c.in-Record.size c.in-Record.ensures)
 
 pub returns-then-r-ne0 : goal.returns-then-r-ne0
-returns-then-r-ne0 c = c.faulty-then-r-ne0.ensures ∙ (let refused₁ : (k : ℕ) → (let Breaks₁ : ℕ → Type 0 = λ k. k ≡ met_broken (marked c.loop-tag.seen (c.tag-1.given.0.0)) (c.tag-1.given.0.0) ((take (c.tag-1.given.0.1.0) (drop (c.loop-tag.at + 3) (c.args.s.now)))) in Breaks₁ k) → (k ≡ 0 → ⊥) → faulty_at k c.loop-tag.at ≡ judge_of (c.args.s.now) = λ k q z. refuses (c.args.s.now) c.loop-tag.seen c.loop-tag.three c.loop-tag.one (sums c.loop-tag.total c.loop-tag.single c.loop-tag.relay) c.loop-tag.at c.loop-tag.invariant (c.tag-1.given.0.0) (c.tag-1.given.0.1.0) ((let is_record₁ : Record (c.tag-1.given.0.0) (c.tag-1.given.0.1.0) ≡ step_of (records_from c.loop-tag.at 0 (drop c.loop-tag.at (c.args.s.now))) = sym c.tag-1.given.1 ∙ c.next_record.ensures in is_record₁)) ((let short₁ : c.tag-1.given.0.1.0 ≤ 1024 = ⊎_elim (λ w. w.1.left) (λ w. omega (arith, w.0.left)) c.if-size-gt255.branch in short₁)) c.met.ensures.1.1 k q z in refused₁ c.high_record-r.result.number ((let by_data₁ : (k : ℕ) → c.met.result ≡ false → k ≡ fault_of (c.tag-1.given.0.0) ((take (c.tag-1.given.0.1.0) (drop (c.loop-tag.at + 3) (c.args.s.now)))) → (let Breaks₁ : ℕ → Type 0 = λ k. k ≡ met_broken (marked c.loop-tag.seen (c.tag-1.given.0.0)) (c.tag-1.given.0.0) ((take (c.tag-1.given.0.1.0) (drop (c.loop-tag.at + 3) (c.args.s.now)))) in Breaks₁ k) = λ k e q. rw (sym c.met.ensures.1.0 ∙ e) q in by_data₁ c.high_record-r.result.number c.if-met.false (ap (λ (x : High). x.number) c.high_record-r.ensures))) c.if-r-ne0.true)
+returns-then-r-ne0 c =
+    let short : c.in-Record.size ≤ 1024 = elim c.if-size-gt255.branch [ then-size-gt255+else-size-gt1024 w ↦ w.if-size-gt1024.false | else-size-gt255 w ↦ omega (arith, w.if-size-gt255.false) ] in
+    let fresh : false ≡ marked c.loop-tag.seen c.in-Record.tag = sym c.if-met.false ∙ c.met.ensures.1.0 in
+    c.faulty-then-r-ne0.ensures ∙ refused c.args.s.now c.loop-tag.seen c.loop-tag.three c.loop-tag.one c.loop-tag.total c.loop-tag.single c.loop-tag.relay c.loop-tag.at c.loop-tag.invariant c.in-Record.tag c.in-Record.size c.in-Record.ensures short c.met.ensures.1.1 false c.high_record-r.result.number fresh (ap (λ (x : High). x.number) c.high_record-r.ensures) c.if-r-ne0.true
 
 pub low_record-r-requires : goal.low_record-r-requires
-low_record-r-requires c = omega (arith, (let room_in₁ : c.loop-tag.at + 3 + c.tag-1.given.0.1.0 ≤ length (c.args.s.now) = (stepped (c.args.s.now) c.loop-tag.at (Record (c.tag-1.given.0.0) (c.tag-1.given.0.1.0)) ((let is_record₁ : Record (c.tag-1.given.0.0) (c.tag-1.given.0.1.0) ≡ step_of (records_from c.loop-tag.at 0 (drop c.loop-tag.at (c.args.s.now))) = sym c.tag-1.given.1 ∙ c.next_record.ensures in is_record₁))).1.0 in room_in₁))
+low_record-r-requires c = room c.args.s.now c.loop-tag.seen c.loop-tag.three c.loop-tag.one (sums c.loop-tag.total c.loop-tag.single c.loop-tag.relay) c.loop-tag.at c.loop-tag.invariant c.in-Record.tag c.in-Record.size c.in-Record.ensures
 
 pub returns-then-r-ne0-2 : goal.returns-then-r-ne0-2
-returns-then-r-ne0-2 c = c.faulty-then-r-ne0-2.ensures ∙ (let refused₁ : (k : ℕ) → (let Breaks₁ : ℕ → Type 0 = λ k. k ≡ met_broken (marked c.loop-tag.seen (c.tag-1.given.0.0)) (c.tag-1.given.0.0) ((take (c.tag-1.given.0.1.0) (drop (c.loop-tag.at + 3) (c.args.s.now)))) in Breaks₁ k) → (k ≡ 0 → ⊥) → faulty_at k c.loop-tag.at ≡ judge_of (c.args.s.now) = λ k q z. refuses (c.args.s.now) c.loop-tag.seen c.loop-tag.three c.loop-tag.one (sums c.loop-tag.total c.loop-tag.single c.loop-tag.relay) c.loop-tag.at c.loop-tag.invariant (c.tag-1.given.0.0) (c.tag-1.given.0.1.0) ((let is_record₁ : Record (c.tag-1.given.0.0) (c.tag-1.given.0.1.0) ≡ step_of (records_from c.loop-tag.at 0 (drop c.loop-tag.at (c.args.s.now))) = sym c.tag-1.given.1 ∙ c.next_record.ensures in is_record₁)) ((let short₁ : c.tag-1.given.0.1.0 ≤ 1024 = ⊎_elim (λ w. w.1.left) (λ w. omega (arith, w.0.left)) c.if-size-gt255.branch in short₁)) c.met.ensures.1.1 k q z in refused₁ c.low_record-r.result.number ((let by_data₁ : (k : ℕ) → c.met.result ≡ false → k ≡ fault_of (c.tag-1.given.0.0) ((take (c.tag-1.given.0.1.0) (drop (c.loop-tag.at + 3) (c.args.s.now)))) → (let Breaks₁ : ℕ → Type 0 = λ k. k ≡ met_broken (marked c.loop-tag.seen (c.tag-1.given.0.0)) (c.tag-1.given.0.0) ((take (c.tag-1.given.0.1.0) (drop (c.loop-tag.at + 3) (c.args.s.now)))) in Breaks₁ k) = λ k e q. rw (sym c.met.ensures.1.0 ∙ e) q in by_data₁ c.low_record-r.result.number c.if-met.false (ap (λ (x : Low). x.number) c.low_record-r.ensures))) c.if-r-ne0-2.true)
+returns-then-r-ne0-2 c =
+    let short : c.in-Record.size ≤ 1024 = elim c.if-size-gt255.branch [ then-size-gt255+else-size-gt1024 w ↦ w.if-size-gt1024.false | else-size-gt255 w ↦ omega (arith, w.if-size-gt255.false) ] in
+    let fresh : false ≡ marked c.loop-tag.seen c.in-Record.tag = sym c.if-met.false ∙ c.met.ensures.1.0 in
+    c.faulty-then-r-ne0-2.ensures ∙ refused c.args.s.now c.loop-tag.seen c.loop-tag.three c.loop-tag.one c.loop-tag.total c.loop-tag.single c.loop-tag.relay c.loop-tag.at c.loop-tag.invariant c.in-Record.tag c.in-Record.size c.in-Record.ensures short c.met.ensures.1.1 false c.low_record-r.result.number fresh (ap (λ (x : Low). x.number) c.low_record-r.ensures) c.if-r-ne0-2.true
 
 pub overflow_sub-total : goal.overflow_sub-total
-overflow_sub-total c = omega (arith, (let room_in₁ : c.loop-tag.at + 3 + c.tag-1.given.0.1.0 ≤ length (c.args.s.now) = (stepped (c.args.s.now) c.loop-tag.at (Record (c.tag-1.given.0.0) (c.tag-1.given.0.1.0)) ((let is_record₁ : Record (c.tag-1.given.0.0) (c.tag-1.given.0.1.0) ≡ step_of (records_from c.loop-tag.at 0 (drop c.loop-tag.at (c.args.s.now))) = sym c.tag-1.given.1 ∙ c.next_record.ensures in is_record₁))).1.0 in room_in₁), c.loop-tag.invariant.least, (let more₁ : c.if-size-gt255.total ≡ c.loop-tag.total + further (c.tag-1.given.0.1.0) = ⊎_elim (λ w. omega (arith, w.4, w.2.ensures.0)) (λ w. omega (arith, w.1, w.0.left)) c.if-size-gt255.branch in more₁))
+overflow_sub-total c =
+    let more : c.if-size-gt255.total ≡ c.loop-tag.total + further c.in-Record.size = elim c.if-size-gt255.branch [ then-size-gt255+else-size-gt1024 w ↦ w.total-is ∙ ap (λ (k : ℕ). c.loop-tag.total + k) w.further-total.ensures.0 | else-size-gt255 w ↦ w.total-is ∙ no_further _ _ w.if-size-gt255.false ] in
+    omega (arith, room c.args.s.now c.loop-tag.seen c.loop-tag.three c.loop-tag.one (sums c.loop-tag.total c.loop-tag.single c.loop-tag.relay) c.loop-tag.at c.loop-tag.invariant c.in-Record.tag c.in-Record.size c.in-Record.ensures, c.loop-tag.invariant.least, more)
 
 pub overflow_add-at : goal.overflow_add-at
-overflow_add-at c = omega (arith, (let room_in₁ : c.loop-tag.at + 3 + c.tag-1.given.0.1.0 ≤ length (c.args.s.now) = (stepped (c.args.s.now) c.loop-tag.at (Record (c.tag-1.given.0.0) (c.tag-1.given.0.1.0)) ((let is_record₁ : Record (c.tag-1.given.0.0) (c.tag-1.given.0.1.0) ≡ step_of (records_from c.loop-tag.at 0 (drop c.loop-tag.at (c.args.s.now))) = sym c.tag-1.given.1 ∙ c.next_record.ensures in is_record₁))).1.0 in room_in₁))
+overflow_add-at c = omega (arith, room c.args.s.now c.loop-tag.seen c.loop-tag.three c.loop-tag.one (sums c.loop-tag.total c.loop-tag.single c.loop-tag.relay) c.loop-tag.at c.loop-tag.invariant c.in-Record.tag c.in-Record.size c.in-Record.ensures)
 
 pub overflow_add-at-in-Record : goal.overflow_add-at-in-Record
-overflow_add-at-in-Record c = omega (arith, (let room_in₁ : c.loop-tag.at + 3 + c.tag-1.given.0.1.0 ≤ length (c.args.s.now) = (stepped (c.args.s.now) c.loop-tag.at (Record (c.tag-1.given.0.0) (c.tag-1.given.0.1.0)) ((let is_record₁ : Record (c.tag-1.given.0.0) (c.tag-1.given.0.1.0) ≡ step_of (records_from c.loop-tag.at 0 (drop c.loop-tag.at (c.args.s.now))) = sym c.tag-1.given.1 ∙ c.next_record.ensures in is_record₁))).1.0 in room_in₁))
+overflow_add-at-in-Record c = omega (arith, room c.args.s.now c.loop-tag.seen c.loop-tag.three c.loop-tag.one (sums c.loop-tag.total c.loop-tag.single c.loop-tag.relay) c.loop-tag.at c.loop-tag.invariant c.in-Record.tag c.in-Record.size c.in-Record.ensures)
 
 pub loop-tag-smaller : goal.loop-tag-smaller
-loop-tag-smaller c = omega (arith, (let room_in₁ : c.loop-tag.at + 3 + c.tag-1.given.0.1.0 ≤ length (c.args.s.now) = (stepped (c.args.s.now) c.loop-tag.at (Record (c.tag-1.given.0.0) (c.tag-1.given.0.1.0)) ((let is_record₁ : Record (c.tag-1.given.0.0) (c.tag-1.given.0.1.0) ≡ step_of (records_from c.loop-tag.at 0 (drop c.loop-tag.at (c.args.s.now))) = sym c.tag-1.given.1 ∙ c.next_record.ensures in is_record₁))).1.0 in room_in₁))
+loop-tag-smaller c = omega (arith, room c.args.s.now c.loop-tag.seen c.loop-tag.three c.loop-tag.one (sums c.loop-tag.total c.loop-tag.single c.loop-tag.relay) c.loop-tag.at c.loop-tag.invariant c.in-Record.tag c.in-Record.size c.in-Record.ensures)
 
 pub loop-tag-preserved : goal.loop-tag-preserved
-loop-tag-preserved c = let e = c.if-met.false in
-    rw c.met.ensures.0
-    (⊎_elim
-    (λ w. settled c.before.before.before w.1.result.number ((let by_data₁ : (k : ℕ) → c.met.result ≡ false → k ≡ fault_of (c.tag-1.given.0.0) ((take (c.tag-1.given.0.1.0) (drop (c.loop-tag.at + 3) (c.args.s.now)))) → (let Breaks₁ : ℕ → Type 0 = λ k. k ≡ met_broken (marked c.loop-tag.seen (c.tag-1.given.0.0)) (c.tag-1.given.0.0) ((take (c.tag-1.given.0.1.0) (drop (c.loop-tag.at + 3) (c.args.s.now)))) in Breaks₁ k) = λ k e q. rw (sym c.met.ensures.1.0 ∙ e) q in by_data₁ w.1.result.number e (ap (λ (x : High). x.number) w.1.ensures))) w.3.left c.if-tag-gt-LAST.three c.if-tag-gt-LAST.one c.if-tag-gt-LAST.relay
-    (w.4 ∙ sym ((let three_high₁ : 76 < c.tag-1.given.0.0 → three_after_value c.loop-tag.three c.loop-tag.one (c.tag-1.given.0.0) (c.loop-tag.at + 1) ≡ c.loop-tag.three = λ h. rw (ne_eqb (c.tag-1.given.0.0) 3 (λ e. omega (arith, e, h))) in three_high₁ w.0.taken))) (w.5 ∙ sym ((let one_high₁ : 76 < c.tag-1.given.0.0 → one_after_value c.loop-tag.one (c.tag-1.given.0.0) ≡ c.loop-tag.one = λ h. rw (ne_eqb (c.tag-1.given.0.0) 1 (λ e. omega (arith, e, h))) in one_high₁ w.0.taken))) (w.6 ∙ ap (λ (x : High). x.relay) w.1.ensures))
-    (λ w. settled c.before.before.before w.1.result.number ((let by_data₁ : (k : ℕ) → c.met.result ≡ false → k ≡ fault_of (c.tag-1.given.0.0) ((take (c.tag-1.given.0.1.0) (drop (c.loop-tag.at + 3) (c.args.s.now)))) → (let Breaks₁ : ℕ → Type 0 = λ k. k ≡ met_broken (marked c.loop-tag.seen (c.tag-1.given.0.0)) (c.tag-1.given.0.0) ((take (c.tag-1.given.0.1.0) (drop (c.loop-tag.at + 3) (c.args.s.now)))) in Breaks₁ k) = λ k e q. rw (sym c.met.ensures.1.0 ∙ e) q in by_data₁ w.1.result.number e (ap (λ (x : Low). x.number) w.1.ensures))) w.3.left c.if-tag-gt-LAST.three c.if-tag-gt-LAST.one c.if-tag-gt-LAST.relay
-    (w.4 ∙ ap (λ (x : Low). x.three) w.1.ensures) (w.5 ∙ ap (λ (x : Low). x.one) w.1.ensures) (w.6 ∙ sym ((let relay_low₁ : c.tag-1.given.0.0 ≤ 76 → (relay_after_value c.loop-tag.relay (c.tag-1.given.0.0) (c.loop-tag.at + 1) (ltb (c.loop-tag.at + (3 + c.tag-1.given.0.1.0)) (length (c.args.s.now)))) ≡ c.loop-tag.relay = λ h. rw (ne_eqb (c.tag-1.given.0.0) 82 (λ e. omega (arith, e, h))) in relay_low₁ w.0.left))))
-    c.if-tag-gt-LAST.branch)
+loop-tag-preserved c =
+    let short : c.in-Record.size ≤ 1024 = elim c.if-size-gt255.branch [ then-size-gt255+else-size-gt1024 w ↦ w.if-size-gt1024.false | else-size-gt255 w ↦ omega (arith, w.if-size-gt255.false) ] in
+    let fresh : false ≡ marked c.loop-tag.seen c.in-Record.tag = sym c.if-met.false ∙ c.met.ensures.1.0 in
+    let more : c.if-size-gt255.total ≡ c.loop-tag.total + further c.in-Record.size = elim c.if-size-gt255.branch [ then-size-gt255+else-size-gt1024 w ↦ w.total-is ∙ ap (λ (k : ℕ). c.loop-tag.total + k) w.further-total.ensures.0 | else-size-gt255 w ↦ w.total-is ∙ no_further _ _ w.if-size-gt255.false ] in
+    let single : c.if-size-gt255.single ≡ cond (ltb 255 c.in-Record.size) (lower c.loop-tag.at c.loop-tag.single) c.loop-tag.single = elim c.if-size-gt255.branch [ then-size-gt255+else-size-gt1024 w ↦ rw (lt-ltb 255 c.in-Record.size w.if-size-gt255.true) (w.single-is ∙ w.lower-single.ensures) | else-size-gt255 w ↦ rw (le-ltb 255 c.in-Record.size w.if-size-gt255.false) w.single-is ] in
+    elim c.if-tag-gt-LAST.branch [
+      | then-tag-gt-LAST+else-r-ne0 w ↦
+          settled c.args.s.now c.loop-tag.seen c.loop-tag.three c.loop-tag.one c.loop-tag.total c.loop-tag.single c.loop-tag.relay c.loop-tag.at c.loop-tag.invariant c.in-Record.tag c.in-Record.size c.in-Record.ensures short c.met.ensures.1.1 w.high_record-r.result.number fresh (ap (λ (x : High). x.number) w.high_record-r.ensures) w.if-r-ne0.false c.met.new.seen c.met.ensures.0 c.if-size-gt255.total c.if-size-gt255.single more single c.if-tag-gt-LAST.three c.if-tag-gt-LAST.one c.if-tag-gt-LAST.relay
+          (w.three-is ∙ sym (three_high c.args.s.now c.loop-tag.seen c.loop-tag.three c.loop-tag.one c.loop-tag.total c.loop-tag.single c.loop-tag.relay c.loop-tag.at c.loop-tag.invariant c.in-Record.tag c.in-Record.size c.in-Record.ensures w.if-tag-gt-LAST.true)) (w.one-is ∙ sym (one_high c.args.s.now c.loop-tag.seen c.loop-tag.three c.loop-tag.one c.loop-tag.total c.loop-tag.single c.loop-tag.relay c.loop-tag.at c.loop-tag.invariant c.in-Record.tag c.in-Record.size c.in-Record.ensures w.if-tag-gt-LAST.true)) (w.relay-is ∙ ap (λ (x : High). x.relay) w.high_record-r.ensures)
+      | else-tag-gt-LAST+else-r-ne0-2 w ↦
+          settled c.args.s.now c.loop-tag.seen c.loop-tag.three c.loop-tag.one c.loop-tag.total c.loop-tag.single c.loop-tag.relay c.loop-tag.at c.loop-tag.invariant c.in-Record.tag c.in-Record.size c.in-Record.ensures short c.met.ensures.1.1 w.low_record-r.result.number fresh (ap (λ (x : Low). x.number) w.low_record-r.ensures) w.if-r-ne0-2.false c.met.new.seen c.met.ensures.0 c.if-size-gt255.total c.if-size-gt255.single more single c.if-tag-gt-LAST.three c.if-tag-gt-LAST.one c.if-tag-gt-LAST.relay
+          (w.three-is ∙ ap (λ (x : Low). x.three) w.low_record-r.ensures) (w.one-is ∙ ap (λ (x : Low). x.one) w.low_record-r.ensures) (w.relay-is ∙ sym (relay_low c.args.s.now c.loop-tag.seen c.loop-tag.three c.loop-tag.one c.loop-tag.total c.loop-tag.single c.loop-tag.relay c.loop-tag.at c.loop-tag.invariant c.in-Record.tag c.in-Record.size c.in-Record.ensures w.if-tag-gt-LAST.false))
+    ]

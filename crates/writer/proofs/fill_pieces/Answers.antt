@@ -1,6 +1,5 @@
 -- `writer::fill_pieces` meets its contract. Assumes nothing.
 use mathlib.Core.Path.{◌≡◌, refl, sym, ap, ap₂, ◌∙◌, subst}
-use mathlib.Core.Logic.{⊎_elim}
 use mathlib.Core.List.{List}
 use Prim.Native.Nat.{ℕ, ◌+◌, ◌-◌, ◌*◌, ◌/◌, ◌^◌, ◌<◌, ◌≤◌}
 use native.Mathlib.Omega.{arith}
@@ -15,6 +14,7 @@ use Rattle.writer.specs.Fill.{place_in, done_in}
 use Rattle.writer.proofs.Filling.{Filling, filling_none, filling_more, closed, place_back, done_back, done_few, within_sheet, still_255, part_is}
 use borrow.Author.Rules.{rules}
 use Rattle.writer.proofs.fill_pieces.Goals as goal
+use Rattle.writer.proofs.fill_pieces.Goals.{else-loop-at-test, then-loop-at-test+then-field-next}
 
 pub overflow_mul-done : goal.overflow_mul-done
 overflow_mul-done c = omega (arith, done_few _ _ _ c.requires.1)
@@ -88,10 +88,11 @@ returns c = let s : List ℕ = c.args.s.now in
     let spot = c.args.spot in
     let n : ℕ = length (c.args.field.now) - c.loop-at.end in
     let z : fits n (pieces_left s c.loop-at.at c.loop-at.done) ≡ 0 =
-    ⊎_elim (λ w. at_end_lem n s c.loop-at.at c.loop-at.done w.left)
-    (λ w. no_room n s c.loop-at.at c.loop-at.done _ _ _
-    (piece_at s c.loop-at.at c.loop-at.done w.1.result c.loop-at.invariant.0.counts.between w.0.taken w.1.ensures) (omega (arith, w.3.taken, c.loop-at.invariant.0.same)))
-    c.loop-at-test.branch in
+    elim c.loop-at-test.branch [
+      | else-loop-at-test w ↦ at_end_lem n s c.loop-at.at c.loop-at.done w.loop-at-test.false
+      | then-loop-at-test+then-field-next w ↦ no_room n s c.loop-at.at c.loop-at.done _ _ _
+          (piece_at s c.loop-at.at c.loop-at.done w.piece_here-piece.result c.loop-at.invariant.0.counts.between w.loop-at-test.true w.piece_here-piece.ensures) (omega (arith, w.if-field-next.true, c.loop-at.invariant.0.same))
+    ] in
     let ps : List Rec = left_over (length (c.args.field.now)) (pieces_left s (place_in spot) (done_in spot)) in
     let from : From s ps c.loop-at.at c.loop-at.done = counted _ s (place_in spot) (done_in spot) c.loop-at.at c.loop-at.done _ c.loop-at.invariant.0.counts z in (
       closed _ s (place_in spot) (done_in spot) c.loop-at.field c.loop-at.at c.loop-at.done c.loop-at.end c.loop-at.invariant.0 z c.close.new.room c.close.ensures,

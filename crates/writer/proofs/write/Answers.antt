@@ -7,12 +7,16 @@ use borrow.Author.Rules.{rules}
 use Rattle.writer.proofs.write.Goals as goal
 
 pub write_plan-requires : goal.write_plan-requires
-write_plan-requires c = let u = (let planned₁ : Used c.args.s.now c.args.m.now c.args.permission c.choice-in-Plan-1.given.0.0 c.choice-in-Plan-1.given.0.1.0 = used c.args.s.now c.args.m.now c.args.permission _ _ c.choose-choice.result (c.choose-choice.ensures c.args.m.now refl) c.choice-in-Plan-1.given.1 in planned₁) in
+write_plan-requires c =
+    let u : Used c.args.s.now c.args.m.now c.args.permission c.in-Plan.plan c.in-Plan.single =
+    used c.args.s.now c.args.m.now c.args.permission _ _ c.choose-choice.result (c.choose-choice.ensures c.args.m.now refl) c.in-Plan.is in
     (u.long, u.room, u.spot, c.uses_file.ensures, c.uses_sname.ensures)
 
 pub returns-in-Refused : goal.returns-in-Refused
-returns-in-Refused c = keeps c.args.s.now (writer _ c.args.s.now c.args.m.now c.args.permission) c.args.m.now c.choose-choice.result _ _ (c.choose-choice.ensures c.args.m.now refl) c.choice-1.given.1
+returns-in-Refused c = keeps c.args.s.now (writer _ c.args.s.now c.args.m.now c.args.permission) c.args.m.now c.choose-choice.result _ _ (c.choose-choice.ensures c.args.m.now refl) c.in-Refused.is
 
 pub returns-in-Plan : goal.returns-in-Plan
-returns-in-Plan c = let u = (let planned₁ : Used c.args.s.now c.args.m.now c.args.permission c.choice-in-Plan-1.given.0.0 c.choice-in-Plan-1.given.0.1.0 = used c.args.s.now c.args.m.now c.args.permission _ _ c.choose-choice.result (c.choose-choice.ensures c.args.m.now refl) c.choice-in-Plan-1.given.1 in planned₁) in
-    rw u.is (record { answer = ap (Plan c.choice-in-Plan-1.given.0.0) u.answer; buffer = c.write_plan.ensures })
+returns-in-Plan c =
+    let u : Used c.args.s.now c.args.m.now c.args.permission c.in-Plan.plan c.in-Plan.single =
+    used c.args.s.now c.args.m.now c.args.permission _ _ c.choose-choice.result (c.choose-choice.ensures c.args.m.now refl) c.in-Plan.is in
+    rw u.is (record { answer = ap (Plan c.in-Plan.plan) u.answer; buffer = c.write_plan.ensures })

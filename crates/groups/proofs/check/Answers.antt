@@ -22,8 +22,21 @@ slice_bounds-check_group-end c = let f = c.args.f.now in
     let l : length f ≤ 4100 = c.if-f-gt4100.false in
     sym (length-take-le c.outermost-n.result f (outer f c.outermost-n.result c.outermost-n.ensures c.if-n-eq0.false).within)
 
+pub returns-then-n-f : goal.returns-then-n-f
+unfolding fault_of
+returns-then-n-f c = let f = c.args.f.now in
+    let l : length f ≤ 4100 = c.if-f-gt4100.false in
+    let v = check_after f l c.outermost-n.result c.outermost-n.ensures c.if-n-eq0.false c.check_group.result c.check_group.ensures c.in-Passed.is in
+    sym (ap checked_of (v ∙ ap fault_of (behind_some f c.outermost-n.result c.if-n-f.true)))
+
+pub returns-else-n-f : goal.returns-else-n-f
+unfolding fault_of
+returns-else-n-f c = let f = c.args.f.now in
+    let l : length f ≤ 4100 = c.if-f-gt4100.false in
+    let v = check_after f l c.outermost-n.result c.outermost-n.ensures c.if-n-eq0.false c.check_group.result c.check_group.ensures c.in-Passed.is in
+    sym (ap checked_of (v ∙ ap fault_of (behind_none f c.outermost-n.result c.if-n-f.false)))
+
 pub returns-in-Refused : goal.returns-in-Refused
 returns-in-Refused c = let f = c.args.f.now in
     let l : length f ≤ 4100 = c.if-f-gt4100.false in
-    let bad = c.number-1.given in
-    sym (ap checked_of (check_refused f l c.outermost-n.result c.outermost-n.ensures c.if-n-eq0.false c.check_group.result bad.0.0 bad.0.1.0 c.check_group.ensures bad.1))
+    sym (ap checked_of (check_refused f l c.outermost-n.result c.outermost-n.ensures c.if-n-eq0.false c.check_group.result c.in-Refused.number c.in-Refused.place c.check_group.ensures c.in-Refused.is))

@@ -9,25 +9,19 @@ use borrow.Author.Rules.{rules}
 use Rattle.groups.proofs.outermost.Goals as goal
 
 pub overflow_add-result : goal.overflow_add-result
-overflow_add-result c = let tag = c.tag-1.given in
-    let f = c.args.f.now in
-    let e : Record tag.0.0 tag.0.1.0 ≡ step_of (records_from 0 0 f) = sym tag.1 ∙ c.next_record.ensures in
-    omega (arith, outer_room f tag.0.0 tag.0.1.0 e)
+overflow_add-result c = let f = c.args.f.now in
+    omega (arith, outer_room f c.in-Record.tag c.in-Record.size c.in-Record.ensures)
 
 pub returns-in-End : goal.returns-in-End
-returns-in-End c = sym (outer_by c.args.f.now End (sym c.in-End.is ∙ c.next_record.ensures))
+returns-in-End c = sym (outer_by c.args.f.now End c.in-End.ensures)
 
 pub returns-in-Cut : goal.returns-in-Cut
-returns-in-Cut c = sym (outer_by c.args.f.now Cut (sym c.in-Cut.is ∙ c.next_record.ensures))
+returns-in-Cut c = sym (outer_by c.args.f.now Cut c.in-Cut.ensures)
 
 pub returns-then-tag-eq0 : goal.returns-then-tag-eq0
-returns-then-tag-eq0 c = let tag = c.tag-1.given in
-    let f = c.args.f.now in
-    let e : Record tag.0.0 tag.0.1.0 ≡ step_of (records_from 0 0 f) = sym tag.1 ∙ c.next_record.ensures in
-    outer_group f tag.0.0 tag.0.1.0 e c.if-tag-eq0.true
+returns-then-tag-eq0 c = let f = c.args.f.now in
+    outer_group f c.in-Record.tag c.in-Record.size c.in-Record.ensures c.if-tag-eq0.true
 
 pub returns-else-tag-eq0 : goal.returns-else-tag-eq0
-returns-else-tag-eq0 c = let tag = c.tag-1.given in
-    let f = c.args.f.now in
-    let e : Record tag.0.0 tag.0.1.0 ≡ step_of (records_from 0 0 f) = sym tag.1 ∙ c.next_record.ensures in
-    outer_other f tag.0.0 tag.0.1.0 e c.if-tag-eq0.false
+returns-else-tag-eq0 c = let f = c.args.f.now in
+    outer_other f c.in-Record.tag c.in-Record.size c.in-Record.ensures c.if-tag-eq0.false

@@ -18,58 +18,44 @@ loop-tag-init c = refl
 pub returns-in-End : goal.returns-in-End
 unfolding past_records_value
 returns-in-End c = let s = c.args.s.now in
-    sym (sym c.loop-tag.invariant ∙ past_by s c.loop-tag.i End (sym c.in-End.is ∙ c.next_record.ensures))
+    sym (sym c.loop-tag.invariant ∙ past_by s c.loop-tag.i End c.in-End.ensures)
 
 pub returns-in-Cut : goal.returns-in-Cut
 unfolding past_records_value
 returns-in-Cut c = let s = c.args.s.now in
-    sym (sym c.loop-tag.invariant ∙ past_by s c.loop-tag.i Cut (sym c.in-Cut.is ∙ c.next_record.ensures))
+    sym (sym c.loop-tag.invariant ∙ past_by s c.loop-tag.i Cut c.in-Cut.ensures)
 
 pub returns-then-tag-eq0 : goal.returns-then-tag-eq0
-returns-then-tag-eq0 c = let tag = c.tag-1.given in
-    let s = c.args.s.now in
+returns-then-tag-eq0 c = let s = c.args.s.now in
     let i = c.loop-tag.i in
-    let e : Record tag.0.0 tag.0.1.0 ≡ step_of (records_from i 0 (drop i s)) = sym tag.1 ∙ c.next_record.ensures in
-    sym (sym c.loop-tag.invariant ∙ past_stop s i tag.0.0 tag.0.1.0 e (inl c.if-tag-eq0.true))
+    sym (sym c.loop-tag.invariant ∙ past_stop s i c.in-Record.tag c.in-Record.size c.in-Record.ensures (inl c.if-tag-eq0.true))
 
 pub returns-then-tag-eq52 : goal.returns-then-tag-eq52
-returns-then-tag-eq52 c = let tag = c.tag-1.given in
-    let s = c.args.s.now in
+returns-then-tag-eq52 c = let s = c.args.s.now in
     let i = c.loop-tag.i in
-    let e : Record tag.0.0 tag.0.1.0 ≡ step_of (records_from i 0 (drop i s)) = sym tag.1 ∙ c.next_record.ensures in
-    sym (sym c.loop-tag.invariant ∙ past_stop s i tag.0.0 tag.0.1.0 e (inr (inl c.if-tag-eq52.true)))
+    sym (sym c.loop-tag.invariant ∙ past_stop s i c.in-Record.tag c.in-Record.size c.in-Record.ensures (inr (inl c.if-tag-eq52.true)))
 
 pub returns-then-tag : goal.returns-then-tag
-returns-then-tag c = let tag = c.tag-1.given in
-    let s = c.args.s.now in
+returns-then-tag c = let s = c.args.s.now in
     let i = c.loop-tag.i in
-    let e : Record tag.0.0 tag.0.1.0 ≡ step_of (records_from i 0 (drop i s)) = sym tag.1 ∙ c.next_record.ensures in
-    sym (sym c.loop-tag.invariant ∙ past_stop s i tag.0.0 tag.0.1.0 e (inr (inr c.if-tag.true)))
+    sym (sym c.loop-tag.invariant ∙ past_stop s i c.in-Record.tag c.in-Record.size c.in-Record.ensures (inr (inr c.if-tag.true)))
 
 pub overflow_add-i : goal.overflow_add-i
-overflow_add-i c = let tag = c.tag-1.given in
-    let s = c.args.s.now in
+overflow_add-i c = let s = c.args.s.now in
     let i = c.loop-tag.i in
-    let e : Record tag.0.0 tag.0.1.0 ≡ step_of (records_from i 0 (drop i s)) = sym tag.1 ∙ c.next_record.ensures in
-    omega (arith, item_room s i 0 tag.0.0 tag.0.1.0 e)
+    omega (arith, item_room s i 0 c.in-Record.tag c.in-Record.size c.in-Record.ensures)
 
 pub overflow_add-i-in-Record : goal.overflow_add-i-in-Record
-overflow_add-i-in-Record c = let tag = c.tag-1.given in
-    let s = c.args.s.now in
+overflow_add-i-in-Record c = let s = c.args.s.now in
     let i = c.loop-tag.i in
-    let e : Record tag.0.0 tag.0.1.0 ≡ step_of (records_from i 0 (drop i s)) = sym tag.1 ∙ c.next_record.ensures in
-    omega (arith, item_room s i 0 tag.0.0 tag.0.1.0 e)
+    omega (arith, item_room s i 0 c.in-Record.tag c.in-Record.size c.in-Record.ensures)
 
 pub loop-tag-smaller : goal.loop-tag-smaller
-loop-tag-smaller c = let tag = c.tag-1.given in
-    let s = c.args.s.now in
+loop-tag-smaller c = let s = c.args.s.now in
     let i = c.loop-tag.i in
-    let e : Record tag.0.0 tag.0.1.0 ≡ step_of (records_from i 0 (drop i s)) = sym tag.1 ∙ c.next_record.ensures in
-    omega (arith, item_room s i 0 tag.0.0 tag.0.1.0 e)
+    omega (arith, item_room s i 0 c.in-Record.tag c.in-Record.size c.in-Record.ensures)
 
 pub loop-tag-preserved : goal.loop-tag-preserved
-loop-tag-preserved c = let tag = c.tag-1.given in
-    let s = c.args.s.now in
+loop-tag-preserved c = let s = c.args.s.now in
     let i = c.loop-tag.i in
-    let e : Record tag.0.0 tag.0.1.0 ≡ step_of (records_from i 0 (drop i s)) = sym tag.1 ∙ c.next_record.ensures in
-    sym (past_on s i tag.0.0 tag.0.1.0 e c.if-tag-eq0.false c.if-tag-eq52.false c.if-tag.false) ∙ c.loop-tag.invariant
+    sym (past_on s i c.in-Record.tag c.in-Record.size c.in-Record.ensures c.if-tag-eq0.false c.if-tag-eq52.false c.if-tag.false) ∙ c.loop-tag.invariant

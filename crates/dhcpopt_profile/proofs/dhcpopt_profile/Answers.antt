@@ -11,7 +11,7 @@ long : length (replicate {A = ℕ} 256 0) ≡ 256
 long = length-replicate {A = ℕ} 256 0
 
 pub returns-in-Refused : goal.returns-in-Refused
-returns-in-Refused c = c.refused.ensures ∙ profile_refused c.args.m.now _ _ long _ c.build_anew-g.ensures _ _ c.g-1.given.1
+returns-in-Refused c = c.refused.ensures ∙ profile_refused c.args.m.now _ _ long _ c.build_anew-g.ensures _ _ c.in-Refused.is
 
 pub returns-in-Bytes : goal.returns-in-Bytes
 returns-in-Bytes c = profile_built c.args.m.now _ _ long _ c.build_anew-g.ensures _ c.in-Bytes.is _ c.judged.ensures

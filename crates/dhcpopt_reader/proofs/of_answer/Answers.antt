@@ -14,13 +14,13 @@ near_of : {x y : Answer} → x ≡ y → Near (answer_of x) → Near (answer_of 
 near_of e = subst (λ (x : Answer). Near (answer_of x)) e
 
 pub of_found-requires : goal.of_found-requires
-of_found-requires c = near_of c.a-in-Found-1.given.1 c.requires
+of_found-requires c = near_of c.in-Found.is c.requires
 
 pub returns-in-Absent : goal.returns-in-Absent
 returns-in-Absent c = c.of_refusal.ensures ∙ plain_of c.in-Absent.is
 
 pub returns-in-Refused : goal.returns-in-Refused
-returns-in-Refused c = c.of_refusal-in-Refused.ensures ∙ plain_of c.a-1.given.1
+returns-in-Refused c = c.of_refusal-in-Refused.ensures ∙ plain_of c.in-Refused.is
 
 pub returns-in-Found : goal.returns-in-Found
-returns-in-Found c = c.of_found.ensures ∙ plain_of c.a-in-Found-1.given.1
+returns-in-Found c = c.of_found.ensures ∙ plain_of c.in-Found.is

@@ -3,7 +3,7 @@ use borrow.Author.Rules.{rules}
 use Rattle.dhcpopt_writer.proofs.of_choice.Goals as goal
 
 pub returns-in-Plan : goal.returns-in-Plan
-returns-in-Plan c = rw c.c-1.given.1
+returns-in-Plan c = rw c.in-Plan.is
 
 pub returns-in-Refused : goal.returns-in-Refused
-returns-in-Refused c = rw c.c-in-Refused-1.given.1
+returns-in-Refused c = rw c.in-Refused.is

@@ -10,6 +10,12 @@ use Rattle.dhcpopt_profile.proofs.dhcpopt_profile.Goals as goal
 long : length (replicate {A = ℕ} 256 0) ≡ 256
 long = length-replicate {A = ℕ} 256 0
 
+pub slice_bounds-judged-end : goal.slice_bounds-judged-end
+slice_bounds-judged-end c = sym (is_built c.args.m.now _ _ long _ c.build_anew-g.ensures _ c.in-Bytes.is).numbers
+
+pub judged-requires : goal.judged-requires
+judged-requires c = is_built c.args.m.now _ _ long _ c.build_anew-g.ensures _ c.in-Bytes.is
+
 pub returns-in-Refused : goal.returns-in-Refused
 returns-in-Refused c = c.refused.ensures ∙ profile_refused c.args.m.now _ _ long _ c.build_anew-g.ensures _ _ c.in-Refused.is
 

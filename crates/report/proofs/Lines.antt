@@ -59,11 +59,11 @@ lease_two l h = go l.any h
     go true e = refl
     go false e = clash (cc)
 
-pub nothing_last : (p : Progress) (o : Bool) → o ≡ is_open_value p → not o ≡ true → [] ≡ last_text p
+pub nothing_last : (p : Progress) (o : Bool) → o ≡ is_open_value p → o ≡ false → [] ≡ last_text p
 nothing_last p true e h = clash (cc)
 nothing_last p false e h = ap (λ (b : Bool). cond b (refused_line 24 p.began) []) e
 
-pub refused_last : (p : Progress) (o : Bool) → o ≡ is_open_value p → not o ≡ false → two_text refused_word 24 p.began ≡ last_text p
+pub refused_last : (p : Progress) (o : Bool) → o ≡ is_open_value p → o ≡ true → two_text refused_word 24 p.began ≡ last_text p
 unfolding refused_line
 refused_last p true e h = ap (λ (b : Bool). cond b (refused_line 24 p.began) []) e
 refused_last p false e h = clash (cc)

@@ -38,11 +38,10 @@ returns-then-n-f c = let l : length c.args.f.now ≤ 4100 = c.if-f-gt4100.false 
     let within : c.outermost-n.result ≤ length c.args.f.now = (outer c.args.f.now c.outermost-n.result c.outermost-n.ensures z).within in
     let part : List ℕ = take c.outermost-n.result c.args.f.now in
     let after = c.choose_group.new.out in
-    let end = c.end-1.given in
-    let k : Chose (group_of (body 4) 0 (drop 3 part) none) c.args.class.now (replicate 4100 0) 0 (length part) (Laid end.0.0) after =
-    subst (λ (x : Outcome). Chose (group_of (body 4) 0 (drop 3 part) none) c.args.class.now (replicate 4100 0) 0 (length part) x after) end.1 c.choose_group.ensures in
+    let k : Chose (group_of (body 4) 0 (drop 3 part) none) c.args.class.now (replicate 4100 0) 0 (length part) (Laid c.in-Laid.end) after =
+    c.in-Laid.ensures in
     fills_unfilled (choice c.args.f.now c.args.class.now c.args.out.now) 20 c.outermost-n.result c.args.out.now
-    (choice_behind c.args.f.now c.args.class.now c.args.out.now l c.outermost-n.result c.outermost-n.ensures z (replicate 4100 0) (length part) after end.0.0 k c.if-n-f.true)
+    (choice_behind c.args.f.now c.args.class.now c.args.out.now l c.outermost-n.result c.outermost-n.ensures z (replicate 4100 0) (length part) after c.in-Laid.end k c.if-n-f.true)
 
 pub slice_bounds-sheet-end : goal.slice_bounds-sheet-end
 slice_bounds-sheet-end c = let l : length c.args.f.now ≤ 4100 = c.if-f-gt4100.false in
@@ -50,9 +49,8 @@ slice_bounds-sheet-end c = let l : length c.args.f.now ≤ 4100 = c.if-f-gt4100.
     let within : c.outermost-n.result ≤ length c.args.f.now = (outer c.args.f.now c.outermost-n.result c.outermost-n.ensures z).within in
     let part : List ℕ = take c.outermost-n.result c.args.f.now in
     let after = c.choose_group.new.out in
-    let end = c.end-1.given in
-    let k : Chose (group_of (body 4) 0 (drop 3 part) none) c.args.class.now (replicate 4100 0) 0 (length part) (Laid end.0.0) after =
-    subst (λ (x : Outcome). Chose (group_of (body 4) 0 (drop 3 part) none) c.args.class.now (replicate 4100 0) 0 (length part) x after) end.1 c.choose_group.ensures in
+    let k : Chose (group_of (body 4) 0 (drop 3 part) none) c.args.class.now (replicate 4100 0) 0 (length part) (Laid c.in-Laid.end) after =
+    c.in-Laid.ensures in
     omega (arith, l, within, length-take-le c.outermost-n.result c.args.f.now within, k.2)
 
 pub slice_bounds-give-end : goal.slice_bounds-give-end
@@ -61,10 +59,9 @@ slice_bounds-give-end c = let l : length c.args.f.now ≤ 4100 = c.if-f-gt4100.f
     let within : c.outermost-n.result ≤ length c.args.f.now = (outer c.args.f.now c.outermost-n.result c.outermost-n.ensures z).within in
     let part : List ℕ = take c.outermost-n.result c.args.f.now in
     let after = c.choose_group.new.out in
-    let end = c.end-1.given in
-    let k : Chose (group_of (body 4) 0 (drop 3 part) none) c.args.class.now (replicate 4100 0) 0 (length part) (Laid end.0.0) after =
-    subst (λ (x : Outcome). Chose (group_of (body 4) 0 (drop 3 part) none) c.args.class.now (replicate 4100 0) 0 (length part) x after) end.1 c.choose_group.ensures in
-    sym (length-take-le end.0.0 after (omega (arith, l, within, length-take-le c.outermost-n.result c.args.f.now within, k.2, c.choose_group.auto.out, length-replicate {A = ℕ} 4100 0)))
+    let k : Chose (group_of (body 4) 0 (drop 3 part) none) c.args.class.now (replicate 4100 0) 0 (length part) (Laid c.in-Laid.end) after =
+    c.in-Laid.ensures in
+    sym (length-take-le c.in-Laid.end after (omega (arith, l, within, length-take-le c.outermost-n.result c.args.f.now within, k.2, c.choose_group.auto.out, length-replicate {A = ℕ} 4100 0)))
 
 pub returns-in-Laid : goal.returns-in-Laid
 returns-in-Laid c = let l : length c.args.f.now ≤ 4100 = c.if-f-gt4100.false in
@@ -72,11 +69,10 @@ returns-in-Laid c = let l : length c.args.f.now ≤ 4100 = c.if-f-gt4100.false i
     let within : c.outermost-n.result ≤ length c.args.f.now = (outer c.args.f.now c.outermost-n.result c.outermost-n.ensures z).within in
     let part : List ℕ = take c.outermost-n.result c.args.f.now in
     let after = c.choose_group.new.out in
-    let end = c.end-1.given in
-    let k : Chose (group_of (body 4) 0 (drop 3 part) none) c.args.class.now (replicate 4100 0) 0 (length part) (Laid end.0.0) after =
-    subst (λ (x : Outcome). Chose (group_of (body 4) 0 (drop 3 part) none) c.args.class.now (replicate 4100 0) 0 (length part) x after) end.1 c.choose_group.ensures in
-    let is : choice c.args.f.now c.args.class.now c.args.out.now ≡ filled_with (take end.0.0 after) c.args.out.now =
-    choice_given c.args.f.now c.args.class.now c.args.out.now l c.outermost-n.result c.outermost-n.ensures z (replicate 4100 0) (length part) after end.0.0 k c.if-n-f.false in
+    let k : Chose (group_of (body 4) 0 (drop 3 part) none) c.args.class.now (replicate 4100 0) 0 (length part) (Laid c.in-Laid.end) after =
+    c.in-Laid.ensures in
+    let is : choice c.args.f.now c.args.class.now c.args.out.now ≡ filled_with (take c.in-Laid.end after) c.args.out.now =
+    choice_given c.args.f.now c.args.class.now c.args.out.now l c.outermost-n.result c.outermost-n.ensures z (replicate 4100 0) (length part) after c.in-Laid.end k c.if-n-f.false in
     rw is c.give.ensures
 
 pub returns-in-Refused : goal.returns-in-Refused
@@ -85,8 +81,7 @@ returns-in-Refused c = let l : length c.args.f.now ≤ 4100 = c.if-f-gt4100.fals
     let within : c.outermost-n.result ≤ length c.args.f.now = (outer c.args.f.now c.outermost-n.result c.outermost-n.ensures z).within in
     let part : List ℕ = take c.outermost-n.result c.args.f.now in
     let after = c.choose_group.new.out in
-    let bad = c.number-1.given in
-    let k : Chose (group_of (body 4) 0 (drop 3 part) none) c.args.class.now (replicate 4100 0) 0 (length part) (Refused bad.0.0 bad.0.1.0) after =
-    subst (λ (x : Outcome). Chose (group_of (body 4) 0 (drop 3 part) none) c.args.class.now (replicate 4100 0) 0 (length part) x after) bad.1 c.choose_group.ensures in
-    fills_unfilled (choice c.args.f.now c.args.class.now c.args.out.now) bad.0.0 bad.0.1.0 c.args.out.now
-    (choice_bad c.args.f.now c.args.class.now c.args.out.now l c.outermost-n.result c.outermost-n.ensures z (replicate 4100 0) (length part) after bad.0.0 bad.0.1.0 k)
+    let k : Chose (group_of (body 4) 0 (drop 3 part) none) c.args.class.now (replicate 4100 0) 0 (length part) (Refused c.in-Refused.number c.in-Refused.place) after =
+    c.in-Refused.ensures in
+    fills_unfilled (choice c.args.f.now c.args.class.now c.args.out.now) c.in-Refused.number c.in-Refused.place c.args.out.now
+    (choice_bad c.args.f.now c.args.class.now c.args.out.now l c.outermost-n.result c.outermost-n.ensures z (replicate 4100 0) (length part) after c.in-Refused.number c.in-Refused.place k)

@@ -20,44 +20,34 @@ loop-tag-init c = let f = c.args.f.now in sym (nameless f (sym c.byte.ensures �
 pub returns-in-End : goal.returns-in-End
 unfolding none_group
 returns-in-End c = let f = c.args.f.now in
-    sym (sym c.loop-tag.invariant ∙ none_by f c.loop-tag.at End (sym c.in-End.is ∙ c.next_record.ensures))
+    sym (sym c.loop-tag.invariant ∙ none_by f c.loop-tag.at End c.in-End.ensures)
 
 pub returns-in-Cut : goal.returns-in-Cut
 unfolding none_group
 returns-in-Cut c = let f = c.args.f.now in
-    sym (sym c.loop-tag.invariant ∙ none_by f c.loop-tag.at Cut (sym c.in-Cut.is ∙ c.next_record.ensures))
+    sym (sym c.loop-tag.invariant ∙ none_by f c.loop-tag.at Cut c.in-Cut.ensures)
 
 pub returns-then-tag-eq0 : goal.returns-then-tag-eq0
-returns-then-tag-eq0 c = let tag = c.tag-1.given in
-    let f = c.args.f.now in
+returns-then-tag-eq0 c = let f = c.args.f.now in
     let at = c.loop-tag.at in
-    let e : Record tag.0.0 tag.0.1.0 ≡ step_of (records_from at 0 (drop at f)) = sym tag.1 ∙ c.next_record.ensures in
-    sym (sym c.loop-tag.invariant ∙ gone_group f at tag.0.0 tag.0.1.0 e c.if-tag-eq0.true)
+    sym (sym c.loop-tag.invariant ∙ gone_group f at c.in-Record.tag c.in-Record.size c.in-Record.ensures c.if-tag-eq0.true)
 
 pub overflow_add-at : goal.overflow_add-at
-overflow_add-at c = let tag = c.tag-1.given in
-    let f = c.args.f.now in
+overflow_add-at c = let f = c.args.f.now in
     let at = c.loop-tag.at in
-    let e : Record tag.0.0 tag.0.1.0 ≡ step_of (records_from at 0 (drop at f)) = sym tag.1 ∙ c.next_record.ensures in
-    omega (arith, record_room f at tag.0.0 tag.0.1.0 e)
+    omega (arith, record_room f at c.in-Record.tag c.in-Record.size c.in-Record.ensures)
 
 pub overflow_add-at-in-Record : goal.overflow_add-at-in-Record
-overflow_add-at-in-Record c = let tag = c.tag-1.given in
-    let f = c.args.f.now in
+overflow_add-at-in-Record c = let f = c.args.f.now in
     let at = c.loop-tag.at in
-    let e : Record tag.0.0 tag.0.1.0 ≡ step_of (records_from at 0 (drop at f)) = sym tag.1 ∙ c.next_record.ensures in
-    omega (arith, record_room f at tag.0.0 tag.0.1.0 e)
+    omega (arith, record_room f at c.in-Record.tag c.in-Record.size c.in-Record.ensures)
 
 pub loop-tag-smaller : goal.loop-tag-smaller
-loop-tag-smaller c = let tag = c.tag-1.given in
-    let f = c.args.f.now in
+loop-tag-smaller c = let f = c.args.f.now in
     let at = c.loop-tag.at in
-    let e : Record tag.0.0 tag.0.1.0 ≡ step_of (records_from at 0 (drop at f)) = sym tag.1 ∙ c.next_record.ensures in
-    omega (arith, record_room f at tag.0.0 tag.0.1.0 e)
+    omega (arith, record_room f at c.in-Record.tag c.in-Record.size c.in-Record.ensures)
 
 pub loop-tag-preserved : goal.loop-tag-preserved
-loop-tag-preserved c = let tag = c.tag-1.given in
-    let f = c.args.f.now in
+loop-tag-preserved c = let f = c.args.f.now in
     let at = c.loop-tag.at in
-    let e : Record tag.0.0 tag.0.1.0 ≡ step_of (records_from at 0 (drop at f)) = sym tag.1 ∙ c.next_record.ensures in
-    sym (gone_on f at tag.0.0 tag.0.1.0 e c.if-tag-eq0.false) ∙ c.loop-tag.invariant
+    sym (gone_on f at c.in-Record.tag c.in-Record.size c.in-Record.ensures c.if-tag-eq0.false) ∙ c.loop-tag.invariant

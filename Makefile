@@ -12,7 +12,7 @@ MANDIR ?= $(PREFIX)/share/man
 DOCDIR ?= $(PREFIX)/share/doc/dhcpopt
 
 version := $(shell packaging/version)
-libraries := $(sort $(filter dhcpopt_%,$(notdir $(wildcard crates/dhcpopt_*))))
+libraries := $(sort $(filter-out %_c,$(filter dhcpopt_%,$(notdir $(wildcard crates/dhcpopt_*)))))
 programs := list_options report_captures
 scripts := take-messages make-captures
 pages := $(patsubst man/%.in,%,$(wildcard man/*.in))
@@ -40,14 +40,14 @@ help:
 
 # rt proves before it writes. What it has proved, and what has not changed since, it does not prove again.
 define proves
-$(1): $(shell packaging/sources $(2))
-	@echo "dhcpopt $(version): proves and writes $(1) (rt $(3) $(2)): minutes the first time, up to one after that"
+$(1): packaging/build $(shell packaging/sources $(2))
+	@echo "dhcpopt $(version): proves and writes $(1) (packaging/build $(2)): minutes the first time, up to one after that"
 	@mkdir -p target/make
-	@rt $(3) $(2) >target/make/$(2).log 2>&1 || { tail -n 20 target/make/$(2).log; echo "failed: rt $(3) $(2): target/make/$(2).log"; exit 1; }
+	@packaging/build $(2) >target/make/$(2).log 2>&1 || { tail -n 20 target/make/$(2).log; echo "failed: packaging/build $(2): target/make/$(2).log"; exit 1; }
 	@touch $(1)
 endef
-$(foreach name,$(libraries),$(eval $(call proves,target/staticlib/lib$(name).a,$(name),staticlib)))
-$(foreach name,$(programs),$(eval $(call proves,target/bin/$(name),$(name),check)))
+$(foreach name,$(libraries),$(eval $(call proves,target/staticlib/lib$(name).a,$(name))))
+$(foreach name,$(programs),$(eval $(call proves,target/bin/$(name),$(name))))
 
 # What is installed, in target/dist: seconds.
 target/dist/lib/libdhcpopt_%.a: target/staticlib/libdhcpopt_%.a include/dhcpopt.h packaging/archive

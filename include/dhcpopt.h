@@ -38,7 +38,7 @@
  * of an answer), the minor one where calls or names are added, or other data are right.
  * An object file that is compiled with this header has the version as the value of a symbol, dhcpopt_version, and so has each object of
  * the archives that `make` writes. The linker refuses two values: "multiple definition" or "duplicate symbol". That takes no byte of code
- * or data (with clang 24 to 48 bytes of unwind table). The archives of `rt staticlib` have no such symbol, and are linked as they are.
+ * or data (with clang 24 to 48 bytes of unwind table). The archives of packaging/build have no such symbol, and are linked as they are.
  * 2.0: a lookup's answer says which field it comes from, and a broken option has a status of its own.
  * 3.0: a code may come in several pieces, in one field or over several (RFC 3396). A lookup answers for all of them together, and
  * dhcpopt_copy gives their bytes. docs/C-API.md, 'Versions', says what to do.

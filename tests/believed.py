@@ -13,19 +13,19 @@ from pathlib import Path
 ROOT = Path(__file__).resolve().parent.parent
 PAGE = "docs/ARCHITECTURE.md"
 HEAD = "## To check the result against the rules, read these"
-WORD = r"[^\s(){}\[\];,⌜⌝]+"
+WORD = r"[^\s(){}\[\];,]+"
 OPENER = r"(?:(?:abbrev|unfoldable|opaque|pub|private|mutual)\s+)*(?:(record|data)\s+)?(" + WORD + r")\s"
 
 
-def uses(text, own, rust=False):
+def uses(text, rust=False):
     """What a file may call by a name of its own: name -> (crate, file, name), and module alias -> (crate, file)."""
     names, modules = {}, {}
     pattern = (r"^\s*ghost use " if rust else r"^\s*(?:pub )?use ") + r"(\S+?)(?:\.\{([^}]*)\}| as (\S+?))?;?\s*$"
     for path, listed, alias in re.findall(pattern, text, flags=re.M):
-        found = re.fullmatch(r"Rattle·(\w+)(?:·specs)?\.specs\.(\w+)", path)
-        if not found:  # the toolchain's libraries, and the structs that the code declares
+        found = re.fullmatch(r"Rattle\.(\w+)\.specs\.(\w+)", path)
+        if not found or not (ROOT / "crates" / found[1]).is_dir():  # the toolchain's libraries, and the structs that the code declares
             continue
-        place = (own if found[1] == "self" else found[1], found[2])
+        place = (found[1], found[2])
         for word in (listed or "").replace("\n", " ").split(","):
             name, _, new = word.strip().partition(" as ")
             if name:
@@ -73,32 +73,39 @@ def resolve(words, names, modules, local):
             module, _, name = word.partition(".")
             if module in modules:
                 yield modules[module], name.split(".")[0]
+            elif module in local:  # a field of what is defined
+                yield None, module
+            elif module in names:
+                yield names[module][:2], names[module][2]
 
 
 def contracts(text):
     """Each public function with the words of its ensures."""
     text = re.sub(r"//.*", "", text)
     for found in re.finditer(r"\bpub (?:extern \"C\" )?fn (\w+)", text):
-        rest = text[found.end():]
-        start = re.search(r"\bensures \{|\n\{", rest)
-        if not start or not start.group().startswith("ensures"):
-            continue
-        at = begin = start.end()
-        depth = 1
-        while depth:
-            depth += {"{": 1, "}": -1}.get(rest[at], 0)
-            at += 1
-        yield found[1], re.findall(WORD, rest[begin:at - 1])
+        at, words = found.end(), []
+        while True:
+            start = re.compile(r"\bensures(?: \w+)? \{|\{\n|\{\}").search(text, at)
+            if not start or not start.group().startswith("ensures"):
+                break
+            at = begin = start.end()
+            depth = 1
+            while depth:
+                depth += {"{": 1, "}": -1}.get(text[at], 0)
+                at += 1
+            words += re.findall(WORD, text[begin:at - 1])
+        if words:
+            yield found[1], words
 
 
 def needed(specs):
     """(crate, file) -> {definition: the first public function that rests on it}."""
-    known = {place: (*definitions(text), *uses(text, place[0])) for place, text in specs.items()}
+    known = {place: (*definitions(text), *uses(text)) for place, text in specs.items()}
     reached = {}
     for path in sorted((ROOT / "crates").glob("*/src/lib.rt")):
         crate = path.parts[-3]
         text = path.read_text()
-        names, modules = uses(text, crate, rust=True)
+        names, modules = uses(text, rust=True)
         for function, words in contracts(text):
             todo = list(resolve(words, names, modules, ()))
             while todo:

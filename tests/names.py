@@ -15,13 +15,19 @@ ROOT = Path(__file__).resolve().parent.parent
 PAGES = ["docs/ARCHITECTURE.md", "docs/DECISIONS.md"]
 COMMENT = {".rt": r"//.*", ".antt": r"(^|\s)--\s.*", ".py": r"#.*", ".rs": r"//.*", ".c": r"/\*.*?\*/", ".h": r"/\*.*?\*/"}
 NOT_OURS = {"libc", "io"}  # libraries of the toolchain
-NAME = r"[A-Za-z_][\w′-]*[\w′]|[A-Za-z_]"
+NAME = r"[A-Za-z_][\w'-]*[\w']|[A-Za-z_]"
+
+
+def made(path):
+    """Whether it is what rt or a test has made."""
+    parts = path.relative_to(ROOT).parts
+    return parts[:1] == ("target",) or parts[:1] == ("crates",) and parts[2:3] == ("out",)
 
 
 def files():
     for top in ("crates", "tests", "bench", "examples", "include"):
         for path in sorted((ROOT / top).rglob("*")):
-            if path.is_file() and (path.suffix in COMMENT or path.suffix == "" and path.name == "run"):
+            if not made(path) and path.is_file() and (path.suffix in COMMENT or path.suffix == "" and path.name == "run"):
                 if not path.match("tests/names.py"):
                     yield path
 
@@ -46,7 +52,7 @@ class Tree:
             if path.suffix == ".antt":
                 self.of_module.setdefault(path.stem, set()).update(found)
         self.crates = {path.name for path in (ROOT / "crates").iterdir()}
-        self.paths = {str(path.relative_to(ROOT)) for path in ROOT.rglob("*") if "target" not in path.relative_to(ROOT).parts[:1]}
+        self.paths = {str(path.relative_to(ROOT)) for path in ROOT.rglob("*") if not made(path)}
         self.basenames = {Path(path).name for path in self.paths} | {Path(path).stem for path in self.paths}
 
     def has_path(self, name):

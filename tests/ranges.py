@@ -16,9 +16,9 @@ UNUSED = 128  # the first code of a range that is not used
 
 
 def codes_of(text):
-    """The codes of a list such as `3 ∷ upFrom 69 7 []`: upFrom a n is a to a + n."""
+    """The codes of a list such as `3 ∷ up_from 69 7 []`: up_from a n is a to a + n."""
     codes = []
-    for a, n, one in re.findall(r"upFrom (\d+) (\d+)|(\d+)", text):
+    for a, n, one in re.findall(r"up_from (\d+) (\d+)|(\d+)", text):
         codes += [int(one)] if one else range(int(a), int(a) + int(n) + 1)
     return codes
 

@@ -2,7 +2,7 @@
 """Every statement of the definitions is named in the contract of a function `proved`, so that the gate refuses a tree in which its proof is missing.
 
 A statement is a name of type `Type 0` without parameters in a file crates/NAME/specs/*.antt: `abbrev pub NAME : Type 0`, or `pub record NAME : Type 0`
-where every member says that something holds. It counts as named where the `ensures` of a `pub fn proved()` has it as a factor, and the file brings it in
+where every member says that something holds. It counts as named where an `ensures` of a `pub fn proved()` has it as a factor, and the file brings it in
 by a `ghost use` from the module that states it. A name that is no statement, or stands in two contracts, is told too. The last line is
 'N statements, M unnamed'.
 """
@@ -13,11 +13,12 @@ from pathlib import Path
 ROOT = Path(__file__).resolve().parent.parent
 # types of data, which state nothing: (crate, module, name)
 NO_STATEMENT = {("options", "Grouped", "Body")}
-STATED = re.compile(r"^(?:abbrev |unfoldable )?pub ([\w′]+) : Type 0[ \t]*$", re.M)
-RECORD = re.compile(r"^pub record ([\w′]+) : Type 0 where\n((?:[ \t]+.*\n|[ \t]*--.*\n)*)", re.M)
+STATED = re.compile(r"^(?:abbrev |unfoldable )?pub ([\w']+) : Type 0[ \t]*$", re.M)
+RECORD = re.compile(r"^pub record ([\w']+) : Type 0 where\n((?:[ \t]+.*\n|[ \t]*--.*\n)*)", re.M)
 HOLDS = re.compile(r"≡|↔|≤|<|⊥")
-USED = re.compile(r"^ghost use Rattle·(\w+?)(?:·specs)?\.specs\.(\w+)\.\{([^}]*)\};", re.M)
-PROVED = re.compile(r"^pub fn proved\(\)\s*ensures \{ λ _\. ⌜(.*?)⌝ \}", re.M | re.S)
+USED = re.compile(r"^ghost use Rattle\.(\w+)\.specs\.(\w+)\.\{([^}]*)\};", re.M)
+PROVED = re.compile(r"^pub fn proved\(\)\n((?:    ensures(?: \w+)? \{[^{}]*\}\n)+)", re.M)
+ENSURES = re.compile(r"ensures(?: \w+)? \{([^{}]*)\}")
 
 
 def facts(members):
@@ -44,10 +45,11 @@ def named():
         for crate, module, names in USED.findall(text):
             for name in names.split(","):
                 origin[name.strip()] = (crate, module, name.strip())
-        for product in PROVED.findall(text):
-            for factor in product.split("×"):
-                name = factor.strip(" \t\r\n()")
-                found.append(origin.get(name, (path.relative_to(ROOT).parts[1], "?", name)))
+        for clauses in PROVED.findall(text):
+            for product in ENSURES.findall(clauses):
+                for factor in product.split("×"):
+                    name = factor.strip(" \t\r\n()")
+                    found.append(origin.get(name, (path.relative_to(ROOT).parts[1], "?", name)))
     return found
 
 

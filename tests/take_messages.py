@@ -193,7 +193,7 @@ def leave_out(what, why):
 
 
 if not LISTING.exists():
-    print(f"failed: {LISTING.relative_to(ROOT)} is not there: rt check list_options makes it")
+    print(f"failed: {LISTING.relative_to(ROOT)} is not there: packaging/build list_options makes it")
     print("0 passed, 1 failed, 0 left out")
     sys.exit(1)
 every("sh", ["sh"])

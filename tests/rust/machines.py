@@ -250,7 +250,7 @@ def short():
 def main(machines):
     run([sys.executable, "rust/make"])
     if len(ARCHIVES) < 6:
-        failed("the archives are not all in target/staticlib: rt staticlib dhcpopt_reader, and so on")
+        failed("the archives are not all in target/staticlib: packaging/build dhcpopt_reader, and so on")
     os.makedirs(OUT, exist_ok=True)
     for old in glob.glob(f"{OUT}/*.rlib"):
         os.remove(old)

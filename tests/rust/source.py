@@ -15,7 +15,8 @@ import tempfile
 os.chdir(os.path.join(os.path.dirname(os.path.abspath(__file__)), "..", ".."))
 HERE = os.getcwd()
 CLAUSE = r"\n    (?:requires|ensures)(?: \w+)? \{ [^\n]*\}"
-PROVED = re.compile(r"\n?(?://[^\n]*\n)*pub fn proved\(\)(?:" + CLAUSE + r")+\n\{\}\n")
+PROOF = r'#\[(?:tactic|cycle)\([^\]"]*\)\]\n'
+PROVED = re.compile(r"\n?(?://[^\n]*\n)*(?:" + PROOF + r")?pub fn proved\(\)(?:" + CLAUSE + r")+\n\{\}\n")
 
 
 def bound(pattern):
@@ -42,14 +43,17 @@ def allowed(rule, off, added, before, after, crates):
     if rule == "clause":
         balanced = off.count("{") == off.count("}")
         return balanced and added == "" and re.fullmatch(CLAUSE, off) and re.match(r"\n(\{|    (requires|ensures) )", after)
+    if rule == "proof":
+        head = re.fullmatch(r"#!\[tactic\(auto\)\]\n(\n?)", off)
+        if head:
+            return added == "" and re.fullmatch(r"(//[^\n]*\n)*", before) and (not head.group(1) or after.startswith("ghost use "))
+        return starts and added == "" and re.fullmatch(PROOF, off) and re.match(r"(#\[|pub |fn )", after)
     if rule == "no_mangle":
-        return starts and added == "" and off == "#[no_mangle]\n" and after.startswith('pub extern "C" fn ')
+        return starts and added == "" and off == "#[unsafe(no_mangle)]\n" and after.startswith('pub extern "C" fn ')
     if rule == "extern":
         return added == "" and off == 'extern "C" ' and before.endswith("\npub ") and after.startswith("fn ")
     if rule == "proved":
         return added == "" and PROVED.fullmatch(off)
-    if rule == "copy":
-        return starts and off == "" and added == "#[derive(Clone, Copy)]\n" and re.match(r"(#\[repr\(C\)\]\n)?(pub )?(struct|enum) ", after)
     if rule == "doc":
         if before == "//" or all(line.startswith("//") for line in before.split("\n")):
             return off == "" and added == "!"
@@ -112,19 +116,22 @@ def check_changes(out):
 
 
 # A small project: LEAF is the text of a crate's file, from its third line on.
-HEAD = "// A leaf.\nghost use lib.X.{y};\n"
-CALL = '// Calls it.\n#[no_mangle]\npub extern "C" fn dhcpopt_one(m: &[u8], k: u64) -> usize\n    ensures { λ r. ⌜ r ≡ 1 ⌝ }\n{\n    leaf::f(m)\n}\n'
+HEAD = "// A leaf.\n#![tactic(auto)]\n\nghost use Rattle.x.specs.X.{y};\n"
+CALL = '// Calls it.\n#[unsafe(no_mangle)]\npub extern "C" fn dhcpopt_one(m: &[u8], k: u64) -> usize\n    ensures { result ≡ 1 }\n{\n    leaf::f(m)\n}\n'
 GOOD = """// One.
+#[derive(Clone, Copy)]
 pub struct S<'a> {
     pub list: &'a [u8],
 }
 
 #[repr(C)]
+#[derive(Clone, Copy)]
 struct P {
     x: u64,
 }
 
 // How many.
+#[derive(Clone, Copy)]
 pub enum E {
     A,
     B { n: usize, k: u8 },
@@ -136,20 +143,24 @@ fn e(n: usize) -> E
 }
 
 // Nothing.
+#[tactic(auto, using(x))]
 pub fn proved()
-    ensures { λ _. ⌜ T { x } ⌝ }
+    ensures { T { x } }
 {}
 
+#[cycle(g_h)]
 fn g(n: usize)
-    requires { ⌜ X ⌝ }
-    ensures { ⌜ Y ⌝ }
+    requires { X }
+    ensures { Y }
 {
     return;
 }
 
 // The first.
+#[tactic(auto, using(one, two_of), unfolding(three))]
 pub fn f(m: &[u8]) -> usize
-    ensures here { λ r. ⌜ r ≡ record { a = 1 } ⌝ }
+    ensures here { result ≡ record { a = 1 } }
+    ensures n2 { result ≤ 1 }
 {
     let E::B { n, k: z } = e(3) else {
         return 1; };
@@ -165,8 +176,8 @@ pub struct S<'a> {
     pub list: &'a [u8],
 }
 
-#[derive(Clone, Copy)]
 #[repr(C)]
+#[derive(Clone, Copy)]
 struct P {
     x: u64,
 }
@@ -198,7 +209,7 @@ pub fn f(m: &[u8]) -> usize
 }
 """
 F = "pub fn f(m: &[u8]) -> usize\n{\n    "
-# What is refused: the text, and the line of the fault, counted in the text.
+# What is refused: the text, and the line of the fault, counted in the text; 0 stands for the file as a whole.
 REFUSED = [
     (F + "println!();\n    1\n}\n", 3), (F + "unsafe { 1 }\n}\n", 3), ("static X: u8 = 1;\n", 1), ("pub fn f<T>(m: T) -> usize\n{\n    1\n}\n", 1),
     ("impl S {}\n", 1), ("trait T {}\n", 1), ("mod x;\n", 1), ("type T = u8;\n", 1), ("ghost let x = 1;\n", 1), ("ghost fn g() {}\n", 1),
@@ -209,8 +220,11 @@ REFUSED = [
     (F + "match 1 {\n        ELSEWHERE => 2,\n        _ => 3,\n    }\n}\n", 4), (F + "fn g() {}\n    1\n}\n", 3), (F + "'a: loop {}\n}\n", 3),
     (F + "let x = 'a';\n    1\n}\n", 3), (F + 'let x = "a";\n    1\n}\n', 3), (F + "let x = 1.5;\n    1\n}\n", 3), ("\tfn g() {}\n", 1), (F + "λ\n}\n", 3),
     ("pub fn proved()\n    ensures { x }\n{ f(); }\n", 1), ("pub fn proved(x: u8)\n    ensures { x }\n{}\n", 1), ("pub fn proved()\n{}\n", 1),
-    ('pub extern "C" fn g() {}\n', 1), ('#[no_mangle]\npub fn g() {}\n', -1), ('pub extern "Rust" fn g() {}\n', 1), (F + "1 as bool\n}\n", 3),
+    ('pub extern "C" fn g() {}\n', 1), ('#[unsafe(no_mangle)]\npub fn g() {}\n', 0), ('pub extern "Rust" fn g() {}\n', 1), (F + "1 as bool\n}\n", 3),
     (F + "let g = |x| x;\n    1\n}\n", 3), (F + "let E::A = e();\n    1\n}\n", 3), (F + "let (a, b) = g();\n    1\n}\n", 3), ("use leaf::{A, B};\n", 1), ("use elsewhere::A;\n", 1),
+    ("use std::{A as B};\n", 1), ("use std::*;\n", 1), ("use std::A::B;\n", 1), ("#[derive(Clone, Copy, Debug)]\nstruct S {}\n", 1), ("#[unsafe(naked)]\nfn g() {}\n", 1),
+    ("#[no_mangle ]\nfn g() {}\n", 0), ("#[tactic(auto)] fn g() {}\n", 1), ("#[tactic(auto)]\nstruct S {}\n", 1), ("fn g() {}\n#![tactic(auto)]\n", 2),
+    ("#![no_std]\n", 1), ("#![tactic(auto)]\n", 1), ("#![tactic(grind)]\n", 1), ("#[cycle(\"x\")]\nfn g() {}\n", 1), ("#[repr(C)]\n#[derive(Clone, Copy)]\nenum E {}\n", 1),
     ("fn g()\n    requires { a \"}\" }\n{}\n", 2), ("fn g()\n    requires { a -- }\n }\n{}\n", 2), ("fn g()\n    requires { {- } -} }\n{}\n", 2), ("fn g()\n    requires { a\n{}\n", 2),
     ("fn g() requires { a }\n{}\n", 1), ("fn g()\n    decreases { a }\n{}\n", 2), ("fn g()\n    ensures { a } {}\n", 2), (F + "loop {\n        break 1;\n    }\n}\n", 4),
     ("struct S(u8);\n", 1), (F + "u64::pow(2, 3);\n    1\n}\n", 3), (F + "x.0\n}\n", 3), ("pub(crate) fn g() {}\n", 1), ("async fn g() {}\n", 1), ("const fn g() {}\n", 1),
@@ -226,7 +240,7 @@ def project(folder, leaf):
         with open(path, "w", encoding="utf-8", newline="") as file:
             file.write(text)
 
-    write("crates.txt", "# leaf\nleaf:\ndhcpopt_all: leaf\n")
+    write("crates.txt", "# leaf\nleaf:\ndhcpopt_all: leaf\ndhcpopt_all_c staticlib: leaf dhcpopt_all\n")
     write("crates/leaf/src/lib.rt", HEAD + leaf)
     write("crates/dhcpopt_all/src/lib.rt", CALL)
     write("rust/face", "f leaf::f dhcpopt_one\n")
@@ -261,7 +275,7 @@ def check_small(folder):
         raise SystemExit(f"failed: a public function with a `requires` was taken: {refused}")
     for text, line in REFUSED:
         refused = project(folder, text)[1]
-        wanted = f"crates/leaf/src/lib.rt:{line + 2}: "
+        wanted = f"crates/leaf/src/lib.rt:{line + HEAD.count(chr(10)) if line else 1}: "
         if not refused.startswith(wanted):
             raise SystemExit(f"failed: {wanted}is expected of\n{text}and this came:\n{refused or 'it was taken'}")
 
@@ -276,7 +290,7 @@ def check_finds(out):
     if taken_back(made, edits, source, crates) != source or taken_back(made.replace("* 256", "* 255", 1), edits, source, crates) == source:
         raise SystemExit("failed: a changed byte is not found")
     body = "    x as usize\n"
-    for rule in ("ghost", "clause", "no_mangle", "extern", "proved", "copy", "doc", "use", "let_else"):
+    for rule in ("ghost", "clause", "no_mangle", "extern", "proved", "proof", "doc", "use", "let_else"):
         at = source.index(body)
         if allowed(rule, body, "", source[:at], source[at + len(body):], crates) or allowed(rule, "", body, source[:at], source[at:], crates):
             raise SystemExit(f"failed: code that is taken off or added passes as {rule}")

@@ -6,6 +6,8 @@ ghost use Rattle.std.specs.Prelude.{◌<◌};
 use console::{Case, one, word};
 use dhcpopt_captures::PlainProgress;
 use message::part;
+use std::io;
+use std::io::{Stdin, Stdout};
 
 // A file while it is taken: whether there was a step, where reading is, and how many bytes a part has.
 #[derive(Clone, Copy)]
@@ -80,18 +82,24 @@ fn feed_times(
 }
 
 // A report of n bytes, and a sum of the bytes of the buffer past it.
-fn print(text: &[u8; 16384], n: usize) {
-    word(part(text, 0, n));
-    one(b"rest sum", console::sum(part(text, n, text.len())));
-    word(b"\n-\n");
+fn print(to: Stdout, text: &[u8; 16384], n: usize) -> io::Result<()> {
+    word(to, part(text, 0, n))?;
+    one(to, b"rest sum", console::sum(part(text, n, text.len())))?;
+    word(to, b"\n-\n")
 }
 
 // The report, in a buffer that holds 0, 1, 2 and so on before.
-fn shown(p: PlainProgress, verdicts: &[u64; 8], held: &[u64; 256], sums: &[u64; 256]) {
+fn shown(
+    to: Stdout,
+    p: PlainProgress,
+    verdicts: &[u64; 8],
+    held: &[u64; 256],
+    sums: &[u64; 256],
+) -> io::Result<()> {
     let mut text = [0u8; 16384];
     console::fill(&mut text, 0);
     let n = dhcpopt_captures::dhcpopt_captures_report(p, verdicts, held, sums, &mut text);
-    print(&text, n);
+    print(to, &text, n)
 }
 
 // Another file begins, which is lent in parts of so many bytes.
@@ -111,6 +119,7 @@ fn begun(
 
 // What comes of a file: 0, a file begins, in parts of `number` bytes; 1, it goes on with the given bytes; 2, with these so many times; 3, with the rising bytes; any other call reports it.
 fn take(
+    to: Stdout,
     call: u8,
     number: usize,
     given: &[u8],
@@ -120,48 +129,50 @@ fn take(
     verdicts: &mut [u64; 8],
     held: &mut [u64; 256],
     sums: &mut [u64; 256],
-) -> Taken {
+) -> io::Result<Taken> {
     if call == 0 {
-        return begun(number, verdicts, held, sums);
+        return Ok(begun(number, verdicts, held, sums));
     }
     let p = t.progress;
     let size = t.part;
     if call == 1 {
         let q = feed(given, size, p, kept, verdicts, held, sums);
-        return Taken {
+        return Ok(Taken {
             there: true,
             progress: q,
             part: size,
-        };
+        });
     }
     if call == 2 {
         let q = feed_times(given, number, size, p, kept, verdicts, held, sums);
-        return Taken {
+        return Ok(Taken {
             there: true,
             progress: q,
             part: size,
-        };
+        });
     }
     if call == 3 {
         let q = feed(rising, size, p, kept, verdicts, held, sums);
-        return Taken {
+        return Ok(Taken {
             there: true,
             progress: q,
             part: size,
-        };
+        });
     }
-    shown(p, verdicts, held, sums);
-    t
+    shown(to, p, verdicts, held, sums)?;
+    Ok(t)
 }
 
 // The next step: as a case without a name.
-fn next(given: &mut [u8], rising: &mut [u8]) -> Case {
+fn next(from: Stdin, given: &mut [u8], rising: &mut [u8]) -> io::Result<Case> {
     let mut name = [0u8; 1];
-    console::next(&mut name, given, rising)
+    console::next(from, &mut name, given, rising)
 }
 
 // Reads a step and takes it; not there at the end of the input.
 fn step(
+    from: Stdin,
+    to: Stdout,
     given: &mut [u8],
     rising: &mut [u8],
     t: Taken,
@@ -169,17 +180,18 @@ fn step(
     verdicts: &mut [u64; 8],
     held: &mut [u64; 256],
     sums: &mut [u64; 256],
-) -> Taken {
-    let c = next(given, rising);
+) -> io::Result<Taken> {
+    let c = next(from, given, rising)?;
     if !c.there {
         let p = t.progress;
-        return Taken {
+        return Ok(Taken {
             there: false,
             progress: p,
             part: t.part,
-        };
+        });
     }
     take(
+        to,
         c.call,
         c.room,
         part(given, 0, c.size),
@@ -194,37 +206,42 @@ fn step(
 
 // At most 5,000 steps are read.
 fn run(
+    from: Stdin,
+    to: Stdout,
     given: &mut [u8],
     rising: &mut [u8],
     kept: &mut [u8; 1472],
     verdicts: &mut [u64; 8],
     held: &mut [u64; 256],
     sums: &mut [u64; 256],
-) {
+) -> io::Result<()> {
     let mut t = begun(0, verdicts, held, sums);
     let mut left: usize = 5000;
     while left > 0 {
-        t = step(given, rising, t, kept, verdicts, held, sums);
+        t = step(from, to, given, rising, t, kept, verdicts, held, sums)?;
         if !t.there {
             break;
         }
         left = left - 1;
     }
+    Ok(())
 }
 
-fn main() {
-    let mut given = io::large_buffer();
-    let mut rising = io::large_buffer();
+fn main(rt: HostRuntime) -> io::Result<()> {
+    let mut given = [0u8; 65536];
+    let mut rising = [0u8; 65536];
     let mut kept = [0u8; 1472];
     let mut verdicts = [0u64; 8];
     let mut held = [0u64; 256];
     let mut sums = [0u64; 256];
     run(
+        rt.stdin(),
+        rt.stdout(),
         &mut given,
         &mut rising,
         &mut kept,
         &mut verdicts,
         &mut held,
         &mut sums,
-    );
+    )
 }

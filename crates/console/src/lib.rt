@@ -1,10 +1,13 @@
 // Cases on standard input, bytes and numbers on standard output, for the programs that run cases.
 #![tactic(auto)]
 
-ghost use Rattle.std.specs.Prelude.{◌≡◌, ◌+◌, ◌*◌, ◌<◌, ◌≤◌, length};
+ghost use Rattle.std.specs.Prelude.{◌≡◌, ◌+◌, ◌*◌, ◌<◌, ◌≤◌, length, IfOk, OnErr};
 ghost use Rattle.console.specs.Sum.{sum_of};
 ghost use Rattle.console.specs.Heads.{head_of};
 ghost use Rattle.console.specs.Filled.{Rises};
+
+use std::io;
+use std::io::{Read, Stdin, Stdout};
 
 // A byte as a number.
 pub fn wide(x: u8) -> u64
@@ -14,27 +17,27 @@ pub fn wide(x: u8) -> u64
 }
 
 // Bytes as they are.
-pub fn word(text: &[u8]) {
-    io::write_all(1, text);
+pub fn word(to: Stdout, text: &[u8]) -> io::Result<()> {
+    to.write_all(text)
 }
 
 // A blank and a number.
-pub fn number(n: u64) {
-    word(b" ");
-    io::print_decimal(1, n);
+pub fn number(to: Stdout, n: u64) -> io::Result<()> {
+    word(to, b" ")?;
+    to.print(n)
 }
 
 // A name and one number after it.
-pub fn one(name: &[u8], n: u64) {
-    word(name);
-    number(n);
+pub fn one(to: Stdout, name: &[u8], n: u64) -> io::Result<()> {
+    word(to, name)?;
+    number(to, n)
 }
 
 // A name and two numbers after it.
-pub fn two(name: &[u8], a: usize, b: usize) {
-    word(name);
-    number(a as u64);
-    number(b as u64);
+pub fn two(to: Stdout, name: &[u8], a: usize, b: usize) -> io::Result<()> {
+    word(to, name)?;
+    number(to, a as u64)?;
+    number(to, b as u64)
 }
 
 // How far z is from 0.
@@ -47,30 +50,33 @@ fn distance(z: i64) -> u64 {
 }
 
 // A blank and a number that may be below 0.
-pub fn signed(x: i64) {
-    word(b" ");
+pub fn signed(to: Stdout, x: i64) -> io::Result<()> {
+    word(to, b" ")?;
     if x < 0 {
-        word(b"-");
+        word(to, b"-")?;
     }
-    io::print_decimal(1, distance(x));
+    to.print(distance(x))
 }
 
 // A blank and a number for each byte.
-pub fn bytes(s: &[u8]) {
+pub fn bytes(to: Stdout, s: &[u8]) -> io::Result<()> {
     let mut i: usize = 0;
     while i < s.len() {
-        number(wide(s[i]));
+        number(to, wide(s[i]))?;
         i = i + 1;
     }
+    Ok(())
 }
 
 // Two hexadecimal digits for each byte.
-pub fn hex(s: &[u8]) {
+pub fn hex(to: Stdout, s: &[u8]) -> io::Result<()> {
     let mut i: usize = 0;
     while i < s.len() {
-        io::print_hex(1, wide(s[i]), 2);
+        let x = wide(s[i]);
+        print!(to; "{x:02x}")?;
         i = i + 1;
     }
+    Ok(())
 }
 
 // A number for a run of bytes: each byte adds itself to 31 times what was there.
@@ -150,40 +156,58 @@ fn none() -> Case
     }
 }
 
+// Reads until buf is full or the input ends, and returns how many bytes it put at the front of buf.
+pub fn read_full(from: Stdin, buf: &mut [u8]) -> io::Result<usize>
+    ensures { IfOk result (λ n. n ≤ length buf.new) }
+{
+    let mut input = from;
+    let mut done: usize = 0;
+    while done < buf.len() {
+        let n = input.read(&mut buf[done..])?;
+        if n == 0 {
+            break;
+        }
+        done = done + n;
+    }
+    Ok(done)
+}
+
 // Reads what the head says into `name` and `given`, and fills what is lent.
-fn body(h: Head, name: &mut [u8], given: &mut [u8], out: &mut [u8]) -> Case
-    ensures { result.room ≤ length out.old }
+fn body(from: Stdin, h: Head, name: &mut [u8], given: &mut [u8], out: &mut [u8]) -> io::Result<Case>
+    ensures ok { IfOk result (λ c. c.room ≤ length out.old) }
+    ensures err { OnErr result (out.new ≡ out.old) }
 {
     let letters = h.letters;
     let size = h.size;
     if out.len() < h.room {
-        return none();
+        return Ok(none());
     }
     if name.len() < letters {
-        return none();
+        return Ok(none());
     }
     if given.len() < size {
-        return none();
+        return Ok(none());
     }
-    let k = io::read_full(0, &mut name[..letters]);
-    let n = io::read_full(0, &mut given[..size]);
+    let k = read_full(from, &mut name[..letters])?;
+    let n = read_full(from, &mut given[..size])?;
     fill(out, h.first);
-    Case {
+    Ok(Case {
         there: true,
         call: h.call,
         room: h.room,
         letters: k,
         size: n,
-    }
+    })
 }
 
-// Reads the next case: `letters` bytes of `name` and `size` bytes of `given`; `room` bytes of `out` are lent.
-pub fn next(name: &mut [u8], given: &mut [u8], out: &mut [u8]) -> Case
-    ensures { result.room ≤ length out.old }
+// Reads the next case: `letters` bytes of `name` and `size` bytes of `given`; `room` bytes of `out` are lent. Where a read fails, `out` is as it was.
+pub fn next(from: Stdin, name: &mut [u8], given: &mut [u8], out: &mut [u8]) -> io::Result<Case>
+    ensures ok { IfOk result (λ c. c.room ≤ length out.old) }
+    ensures err { OnErr result (out.new ≡ out.old) }
 {
     let mut bytes = [0u8; 8];
-    if io::read_full(0, &mut bytes) < 8 {
-        return none();
+    if read_full(from, &mut bytes)? < 8 {
+        return Ok(none());
     }
-    body(head_of(&bytes), name, given, out)
+    body(from, head_of(&bytes), name, given, out)
 }

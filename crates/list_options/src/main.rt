@@ -4,6 +4,8 @@
 ghost use Rattle.std.specs.Prelude.{◌≡◌, ◌++◌, length, take, drop};
 ghost use Rattle.options.specs.Answers.{listing};
 
+use std::io;
+
 // The text that is printed, at the front of `text`, and its length: the listing of the first n bytes of what was read into.
 // One byte more than the longest message is read, so that a longer one is refused ("at most 1,473 bytes").
 fn listed(read: &[u8; 1473], n: usize, text: &mut [u8; 16384]) -> usize
@@ -13,10 +15,10 @@ fn listed(read: &[u8; 1473], n: usize, text: &mut [u8; 16384]) -> usize
     listing::list(message::part(read, 0, n), text)
 }
 
-fn main() {
+fn main(rt: HostRuntime) -> io::Result<()> {
     let mut read = [0u8; 1473];
     let mut text = [0u8; 16384];
-    let n = io::read_full(0, &mut read);
+    let n = console::read_full(rt.stdin(), &mut read)?;
     let size = listed(&read, n, &mut text);
-    io::write_all(1, &text[..size]);
+    rt.write_all(&text[..size])
 }

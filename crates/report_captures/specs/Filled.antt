@@ -12,6 +12,10 @@ Filled message verdicts held bytes total p message' verdicts' held' bytes' =
     1472 ≤ length message → verdicts ≡ replicate 8 0 → held ≡ replicate 256 0 → bytes ≡ replicate 256 0
     → (f : List ℕ) × AllBytes f × (total ≡ length f % 2 ^ 64) × Stands (fed begun f) p message' verdicts' held' bytes'
 
+-- the same where reading stopped: the numbers stand for the running tally of some file, the one that was taken before
+abbrev pub Stopped : List ℕ → List ℕ → List ℕ → List ℕ → List ℕ → List ℕ → List ℕ → List ℕ → Type 0
+Stopped message verdicts held bytes message' verdicts' held' bytes' = (total : ℕ) × (p : Progress) × Filled message verdicts held bytes total p message' verdicts' held' bytes'
+
 -- [H6] what is printed is the report of a file of as many bytes as were read
 abbrev pub Printed : ℕ → List ℕ → ℕ → List ℕ → Type 0
 Printed total old r after =

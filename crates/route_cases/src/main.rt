@@ -5,6 +5,8 @@ use console::{number, one, two, word};
 use dhcpopt_routes::{PlainIgnored, PlainRoute};
 use filled::PlainFilled;
 use message::part;
+use std::io;
+use std::io::{Stdin, Stdout};
 
 // A known set of every code, and of none, by words; 121 is bit 57 of the second.
 const EVERY: u64 = 18446744073709551615;
@@ -12,130 +14,131 @@ const EVERY: u64 = 18446744073709551615;
 const BIT_121: u64 = 144115188075855872;
 
 // A step: the route and the place behind it, or that there is none, and the place.
-fn shown_step(s: PlainRoute) {
+fn shown_step(to: Stdout, s: PlainRoute) -> io::Result<()> {
     if s.given == 0 {
-        one(b"done", s.next as u64);
+        one(to, b"done", s.next as u64)?;
     } else {
-        two(b"route", s.destination as usize, s.width as usize);
-        number(s.router as u64);
-        number(s.next as u64);
+        two(to, b"route", s.destination as usize, s.width as usize)?;
+        number(to, s.router as u64)?;
+        number(to, s.next as u64)?;
     }
-    word(b"\n");
+    word(to, b"\n")
 }
 
 // The walk from the first byte on. No data of 5,000 bytes have more than 1,000 routes.
-fn walk(bytes: &[u8]) {
+fn walk(to: Stdout, bytes: &[u8]) -> io::Result<()> {
     let mut at: usize = 0;
     let mut left: usize = 1001;
     while left > 0 {
         let s = dhcpopt_routes::dhcpopt_route_step(bytes, at);
         let given = s.given;
         let after = s.next;
-        shown_step(s);
+        shown_step(to, s)?;
         if given == 0 {
             break;
         }
         at = after;
         left = left - 1;
     }
+    Ok(())
 }
 
-fn step(bytes: &[u8], at: usize) {
-    shown_step(dhcpopt_routes::dhcpopt_route_step(bytes, at));
+fn step(to: Stdout, bytes: &[u8], at: usize) -> io::Result<()> {
+    shown_step(to, dhcpopt_routes::dhcpopt_route_step(bytes, at))
 }
 
 // What was given: the bytes, or the refusal; and a sum of the bytes of the buffer past them.
-fn shown(g: PlainFilled, out: &[u8]) {
+fn shown(to: Stdout, g: PlainFilled, out: &[u8]) -> io::Result<()> {
     if g.refusal != 0 {
-        two(b"refused", g.refusal as usize, g.place);
+        two(to, b"refused", g.refusal as usize, g.place)?;
     } else {
-        one(b"given", g.size as u64);
-        word(b" ");
-        console::hex(part(out, 0, g.size));
+        one(to, b"given", g.size as u64)?;
+        word(to, b" ")?;
+        console::hex(to, part(out, 0, g.size))?;
     }
-    one(b" rest sum", console::sum(part(out, g.size, out.len())));
-    word(b"\n");
+    one(to, b" rest sum", console::sum(part(out, g.size, out.len())))?;
+    word(to, b"\n")
 }
 
-fn write(bytes: &[u8], out: &mut [u8]) {
+fn write(to: Stdout, bytes: &[u8], out: &mut [u8]) -> io::Result<()> {
     let g = dhcpopt_routes::dhcpopt_routes_write(bytes, out);
     let given = g.refusal == 0;
     let size = g.size;
-    shown(g, out);
+    shown(to, g, out)?;
     if given {
-        walk(part(out, 0, size));
+        walk(to, part(out, 0, size))?;
     }
+    Ok(())
 }
 
-fn shown_ignored(x: PlainIgnored) {
+fn shown_ignored(to: Stdout, x: PlainIgnored) -> io::Result<()> {
     if x.refusal != 0 {
-        two(b"refused", x.refusal as usize, x.place);
+        two(to, b"refused", x.refusal as usize, x.place)?;
     } else if x.ignored == 1 {
-        word(b"yes");
+        word(to, b"yes")?;
     } else {
-        word(b"no");
+        word(to, b"no")?;
     }
-    word(b"\n");
+    word(to, b"\n")
 }
 
 // 2: every code is known; 3: 121 alone; 4: every code but 121.
-fn ignored(call: u8, bytes: &[u8]) {
+fn ignored(to: Stdout, call: u8, bytes: &[u8]) -> io::Result<()> {
     if call == 2 {
-        shown_ignored(dhcpopt_routes::dhcpopt_routes_ignored(bytes, EVERY, EVERY, EVERY, EVERY));
-        return;
+        return shown_ignored(
+            to,
+            dhcpopt_routes::dhcpopt_routes_ignored(bytes, EVERY, EVERY, EVERY, EVERY),
+        );
     }
     if call == 3 {
-        shown_ignored(dhcpopt_routes::dhcpopt_routes_ignored(bytes, 0, BIT_121, 0, 0));
-        return;
+        return shown_ignored(
+            to,
+            dhcpopt_routes::dhcpopt_routes_ignored(bytes, 0, BIT_121, 0, 0),
+        );
     }
-    shown_ignored(dhcpopt_routes::dhcpopt_routes_ignored(
-        bytes,
-        EVERY,
-        EVERY - BIT_121,
-        EVERY,
-        EVERY,
-    ));
+    shown_ignored(
+        to,
+        dhcpopt_routes::dhcpopt_routes_ignored(bytes, EVERY, EVERY - BIT_121, EVERY, EVERY),
+    )
 }
 
 // The lines of one case but the last: 0 walks, 1 writes and walks what was written, 2 to 4 ask whether 3 and 33 are ignored, any other call steps at the place that the room names.
-fn case(call: u8, bytes: &[u8], out: &mut [u8]) {
+fn case(to: Stdout, call: u8, bytes: &[u8], out: &mut [u8]) -> io::Result<()> {
     if call == 0 {
-        walk(bytes);
-        return;
+        return walk(to, bytes);
     }
     if call == 1 {
-        write(bytes, out);
-        return;
+        return write(to, bytes, out);
     }
     if call < 5 {
-        ignored(call, bytes);
-        return;
+        return ignored(to, call, bytes);
     }
-    step(bytes, out.len());
+    step(to, bytes, out.len())
 }
 
 // Reads one case and prints its lines; false at the end of the input.
-fn next() -> bool {
+fn next(from: Stdin, to: Stdout) -> io::Result<bool> {
     let mut name = [0u8; 1];
     let mut bytes = [0u8; 5000];
     let mut out = [0u8; 5000];
-    let c = console::next(&mut name, &mut bytes, &mut out);
+    let c = console::next(from, &mut name, &mut bytes, &mut out)?;
     if !c.there {
-        return false;
+        return Ok(false);
     }
     let room = c.room;
-    case(c.call, part(&bytes, 0, c.size), &mut out[..room]);
-    word(b"-\n");
-    true
+    case(to, c.call, part(&bytes, 0, c.size), &mut out[..room])?;
+    word(to, b"-\n")?;
+    Ok(true)
 }
 
 // At most 2,000 cases are read.
-fn main() {
+fn main(rt: HostRuntime) -> io::Result<()> {
     let mut left: usize = 2000;
     while left > 0 {
-        if !next() {
+        if !next(rt.stdin(), rt.stdout())? {
             break;
         }
         left = left - 1;
     }
+    Ok(())
 }

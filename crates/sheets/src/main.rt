@@ -4,39 +4,48 @@
 mod names;
 mod print;
 
+use std::io;
+use std::io::{Stdin, Stdout};
+
 // The lines of one sheet.
-fn one(sheet: &[u8], buf: &mut [u8], permission: u8) {
+fn one(to: Stdout, sheet: &[u8], buf: &mut [u8], permission: u8) -> io::Result<()> {
     let w = dhcpopt_writer::dhcpopt_write(sheet, buf, permission);
     if w.refusal == 0 {
-        print::written(w.plan, sheet, buf);
+        print::written(to, w.plan, sheet, buf)?;
     } else {
-        print::refused(w.refusal, w.place, buf);
+        print::refused(to, w.refusal, w.place, buf)?;
     }
-    names::written(sheet, buf.len(), permission, w);
-    console::word(b"-\n");
+    names::written(to, sheet, buf.len(), permission, w)?;
+    console::word(to, b"-\n")
 }
 
 // Reads one case and prints its lines; false at the end of the input.
-fn next() -> bool {
+fn next(from: Stdin, to: Stdout) -> io::Result<bool> {
     let mut name = [0u8; 1];
     let mut sheet = [0u8; 5000];
     let mut buf = [0u8; 1600];
-    let c = console::next(&mut name, &mut sheet, &mut buf);
+    let c = console::next(from, &mut name, &mut sheet, &mut buf)?;
     if !c.there {
-        return false;
+        return Ok(false);
     }
     let room = c.room;
-    one(message::part(&sheet, 0, c.size), &mut buf[..room], c.call);
-    true
+    one(
+        to,
+        message::part(&sheet, 0, c.size),
+        &mut buf[..room],
+        c.call,
+    )?;
+    Ok(true)
 }
 
 // At most 2,000 cases are read.
-fn main() {
+fn main(rt: HostRuntime) -> io::Result<()> {
     let mut left: usize = 2000;
     while left > 0 {
-        if !next() {
+        if !next(rt.stdin(), rt.stdout())? {
             break;
         }
         left = left - 1;
     }
+    Ok(())
 }

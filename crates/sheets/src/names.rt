@@ -2,6 +2,8 @@
 use console::word;
 use dhcpopt_writer::PlainWrote;
 use plan::Choice;
+use std::io;
+use std::io::Stdout;
 
 fn same_plan(plan: u8, w: PlainWrote) -> bool {
     if w.refusal != 0 {
@@ -31,13 +33,20 @@ fn same(c: Choice, w: PlainWrote) -> bool {
 }
 
 // Writes the sheet once more, by the library's own call, into a buffer of that length.
-pub fn written(sheet: &[u8], length: usize, permission: u8, w: PlainWrote) {
+pub fn written(
+    to: Stdout,
+    sheet: &[u8],
+    length: usize,
+    permission: u8,
+    w: PlainWrote,
+) -> io::Result<()> {
     let mut buffer = [0u8; 1600];
     if 1600 < length {
-        return;
+        return Ok(());
     }
     let c = writer::write(sheet, &mut buffer[..length], permission);
     if !same(c, w) {
-        word(b"names?\n");
+        word(to, b"names?\n")?;
     }
+    Ok(())
 }

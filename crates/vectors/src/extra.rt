@@ -2,6 +2,8 @@
 ghost use Rattle.std.specs.Prelude.{◌+◌, ◌≤◌, length};
 
 use crate::{ALL, indexes, print};
+use std::io;
+use std::io::Stdout;
 
 // Lays src over m from at on.
 fn lay(m: &mut [u8], at: usize, src: &[u8])
@@ -33,121 +35,121 @@ pub fn message() -> [u8; 300] {
 }
 
 // Lookups of 0 and 255, of an absent code, and with known sets that leave codes out.
-fn lookups(m: &[u8]) {
+fn lookups(to: Stdout, m: &[u8]) -> io::Result<()> {
     let none = [0u64; 4];
     let only_12 = [4096u64, 0, 0, 0];
-    print::line(m, ALL, 0);
-    print::line(m, ALL, 255);
-    print::line(m, ALL, 50);
-    print::line(m, none, 0);
-    print::line(m, none, 12);
-    print::line(m, none, 50);
-    print::line(m, only_12, 12);
-    print::line(m, only_12, 3);
-    print::line(m, only_12, 53);
-    print::line(m, only_12, 120);
-    print::line(m, only_12, 51);
+    print::line(to, m, ALL, 0)?;
+    print::line(to, m, ALL, 255)?;
+    print::line(to, m, ALL, 50)?;
+    print::line(to, m, none, 0)?;
+    print::line(to, m, none, 12)?;
+    print::line(to, m, none, 50)?;
+    print::line(to, m, only_12, 12)?;
+    print::line(to, m, only_12, 3)?;
+    print::line(to, m, only_12, 53)?;
+    print::line(to, m, only_12, 120)?;
+    print::line(to, m, only_12, 51)
 }
 
 // Data of known, broken, rowless and absent codes.
-fn data(m: &[u8]) {
-    print::data(m, 12);
-    print::data(m, 53);
-    print::data(m, 120);
-    print::data(m, 52);
-    print::data(m, 51);
-    print::data(m, 50);
-    print::data(m, 0);
-    print::data(m, 255);
+fn data(to: Stdout, m: &[u8]) -> io::Result<()> {
+    print::data(to, m, 12)?;
+    print::data(to, m, 53)?;
+    print::data(to, m, 120)?;
+    print::data(to, m, 52)?;
+    print::data(to, m, 51)?;
+    print::data(to, m, 50)?;
+    print::data(to, m, 0)?;
+    print::data(to, m, 255)
 }
 
 // Text, and codes that have none.
-fn texts(m: &[u8]) {
+fn texts(to: Stdout, m: &[u8]) -> io::Result<()> {
     let none = [0u64; 4];
-    print::text(m, ALL, 12);
-    print::text(m, ALL, 15);
-    print::text(m, ALL, 53);
-    print::text(m, ALL, 50);
-    print::text(m, ALL, 0);
-    print::text(m, none, 12);
+    print::text(to, m, ALL, 12)?;
+    print::text(to, m, ALL, 15)?;
+    print::text(to, m, ALL, 53)?;
+    print::text(to, m, ALL, 50)?;
+    print::text(to, m, ALL, 0)?;
+    print::text(to, m, none, 12)
 }
 
 // Two addresses; one and two bytes left over; three bytes alone; nothing.
-fn walks(m: &[u8]) {
-    print::addresses(m, 3);
-    print::addresses(m, 4);
-    print::addresses(m, 6);
-    print::addresses(m, 50);
+fn walks(to: Stdout, m: &[u8]) -> io::Result<()> {
+    print::addresses(to, m, 3)?;
+    print::addresses(to, m, 4)?;
+    print::addresses(to, m, 6)?;
+    print::addresses(to, m, 50)
 }
 
 // The same by a reader.
-fn reader_walks(m: &[u8]) {
-    print::steps(m, 3);
-    print::steps(m, 4);
-    print::steps(m, 6);
-    print::steps(m, 50);
+fn reader_walks(to: Stdout, m: &[u8]) -> io::Result<()> {
+    print::steps(to, m, 3)?;
+    print::steps(to, m, 4)?;
+    print::steps(to, m, 6)?;
+    print::steps(to, m, 50)
 }
 
 // The records of the message take 53 bytes: one sheet holds them, one is too small.
-fn sheets(m: &[u8]) {
+fn sheets(to: Stdout, m: &[u8]) -> io::Result<()> {
     let mut sheet = [0u8; 53];
     let mut small = [0u8; 52];
-    print::records(m, &mut sheet);
-    print::records(m, &mut small);
+    print::records(to, m, &mut sheet)?;
+    print::records(to, m, &mut small)
 }
 
 // Copies of codes in one piece, in options and in file, into just enough room; too little; of an absent code; of 0 and 255.
-fn copies(m: &[u8], three: &mut [u8], eight: &mut [u8]) {
-    print::copy(m, 12, three);
-    print::copy(m, 3, eight);
-    print::copy(m, 51, eight);
-    print::copy(m, 51, three);
-    print::copy(m, 50, eight);
-    print::copy(m, 0, eight);
-    print::copy(m, 255, eight);
+fn copies(to: Stdout, m: &[u8], three: &mut [u8], eight: &mut [u8]) -> io::Result<()> {
+    print::copy(to, m, 12, three)?;
+    print::copy(to, m, 3, eight)?;
+    print::copy(to, m, 51, eight)?;
+    print::copy(to, m, 51, three)?;
+    print::copy(to, m, 50, eight)?;
+    print::copy(to, m, 0, eight)?;
+    print::copy(to, m, 255, eight)
 }
 
-fn copied(m: &[u8]) {
+fn copied(to: Stdout, m: &[u8]) -> io::Result<()> {
     let mut three = [0u8; 3];
     let mut eight = [0u8; 8];
-    copies(m, &mut three, &mut eight);
+    copies(to, m, &mut three, &mut eight)
 }
 
 // A refused message; 10 comes before that.
-fn refusals(m: &[u8], sheet: &mut [u8]) {
-    print::line(m, ALL, 12);
-    print::line(m, ALL, 0);
-    print::data(m, 12);
-    print::text(m, ALL, 12);
-    print::present(dhcpopt_reader::dhcpopt_present(m));
-    print::records(m, sheet);
-    print::copy(m, 12, sheet);
-    print::copy(m, 0, sheet);
+fn refusals(to: Stdout, m: &[u8], sheet: &mut [u8]) -> io::Result<()> {
+    print::line(to, m, ALL, 12)?;
+    print::line(to, m, ALL, 0)?;
+    print::data(to, m, 12)?;
+    print::text(to, m, ALL, 12)?;
+    print::present(to, dhcpopt_reader::dhcpopt_present(m))?;
+    print::records(to, m, sheet)?;
+    print::copy(to, m, 12, sheet)?;
+    print::copy(to, m, 0, sheet)
 }
 
 // A message of 240 zeros is refused for its cookie.
-fn refused() {
+fn refused(to: Stdout) -> io::Result<()> {
     let m = [0u8; 240];
     let mut sheet = [0u8; 9];
-    refusals(&m, &mut sheet);
+    refusals(to, &m, &mut sheet)
 }
 
 // The calls on one message, with those on a refused one; then those of an index.
-fn calls(m: &[u8]) {
-    lookups(m);
-    data(m);
-    texts(m);
-    walks(m);
-    sheets(m);
-    copied(m);
-    refused();
-    reader_walks(m);
-    indexes::lines(m);
+fn calls(to: Stdout, m: &[u8]) -> io::Result<()> {
+    lookups(to, m)?;
+    data(to, m)?;
+    texts(to, m)?;
+    walks(to, m)?;
+    sheets(to, m)?;
+    copied(to, m)?;
+    refused(to)?;
+    reader_walks(to, m)?;
+    indexes::lines(to, m)
 }
 
 // The lines after the cases.
-pub fn lines() {
-    console::word(b"extra\n");
+pub fn lines(to: Stdout) -> io::Result<()> {
+    console::word(to, b"extra\n")?;
     let m = message();
-    calls(&m);
+    calls(to, &m)
 }

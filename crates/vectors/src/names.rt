@@ -4,6 +4,8 @@ use console::word;
 use dhcpopt_reader::{PlainAnswer, PlainContent, PlainExtent, from_signed, from_unsigned};
 use lookup::{Answer, Content, Origin, Wholeness};
 use message::Field;
+use std::io;
+use std::io::Stdout;
 
 const ALL: u64 = 18446744073709551615;
 
@@ -188,23 +190,25 @@ fn sets(m: &[u8], code: u8, status: u32) -> bool {
 }
 
 // Of an answer for C.
-pub fn answered(m: &[u8], known: [u64; 4], code: u8, c: PlainAnswer) {
+pub fn answered(to: Stdout, m: &[u8], known: [u64; 4], code: u8, c: PlainAnswer) -> io::Result<()> {
     let r = lookup::lookup(m, known, code);
     if !same(r, c) {
-        word(b"names?\n");
+        word(to, b"names?\n")?;
     }
+    Ok(())
 }
 
 // Of a code that the message holds.
-pub fn held(m: &[u8], code: u8) {
+pub fn held(to: Stdout, m: &[u8], code: u8) -> io::Result<()> {
     let all = dhcpopt_reader::dhcpopt_lookup(m, ALL, ALL, ALL, ALL, code);
     if !sets(m, code, all.status) {
-        word(b"sets?\n");
+        word(to, b"sets?\n")?;
     }
     if !as_told(
         dhcpopt_reader::dhcpopt_text(m, ALL, ALL, ALL, ALL, code),
         all,
     ) {
-        word(b"text?\n");
+        word(to, b"text?\n")?;
     }
+    Ok(())
 }

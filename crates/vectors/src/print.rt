@@ -4,195 +4,193 @@ use console::{number, one, sum, two, word};
 use dhcpopt_reader::{PlainAnswer, PlainCodes, PlainExtent};
 use filled::PlainFilled;
 use message::part;
+use std::io;
+use std::io::Stdout;
 
 // The first byte of each lent buffer; the others rise.
 const FIRST: u8 = 160;
 
 // A blank and a name, each in 11 bytes: absent, unknown, refused; the kinds; broken; the fields.
-fn name(i: u32) {
+fn name(to: Stdout, i: u32) -> io::Result<()> {
     let t = part(
         b" absent\0\0\0\0 unknown\0\0\0 refused\0\0\0 address\0\0\0 addresses\0 pairs\0\0\0\0\0 flag\0\0\0\0\0\0 octet\0\0\0\0\0 number16\0\0 numbers16\0 unsigned32 signed32\0\0 text\0\0\0\0\0\0 opaque\0\0\0\0 relay\0\0\0\0\0 routes\0\0\0\0 broken\0\0\0\0 options\0\0\0 file\0\0\0\0\0\0 sname\0\0\0\0\0",
         i as usize * 11,
         11,
     );
-    word(part(t, 0, kinds::text_len(t)));
+    word(to, part(t, 0, kinds::text_len(t)))
 }
 
 // A name from one of those on, by its number there; `?` where none has it.
-fn named(from: u32, i: u32, most: u32) {
+fn named(to: Stdout, from: u32, i: u32, most: u32) -> io::Result<()> {
     if most < i {
-        word(b" ?");
-        return;
+        return word(to, b" ?");
     }
-    name(from % 32 + i % 16);
+    name(to, from % 32 + i % 16)
 }
 
 // The name of an answer, by its status and its kind.
-fn answer_name(status: u32, kind: u32) {
+fn answer_name(to: Stdout, status: u32, kind: u32) -> io::Result<()> {
     if status < 3 {
-        name(status);
-        return;
+        return name(to, status);
     }
     if status < 5 {
-        named(2, kind, 13);
-        return;
+        return named(to, 2, kind, 13);
     }
-    named(11, status, 5);
+    named(to, 11, status, 5)
 }
 
 // What is answered of an option: its name, and its number, its length, or number and place of what is broken.
-fn content(a: PlainAnswer) {
-    answer_name(a.status, a.kind);
+fn content(to: Stdout, a: PlainAnswer) -> io::Result<()> {
+    answer_name(to, a.status, a.kind)?;
     if a.status == 3 {
-        console::signed(a.number);
-        return;
+        return console::signed(to, a.number);
     }
     if a.status == 5 {
-        two(b"", a.refusal as usize, a.place);
-        return;
+        return two(to, b"", a.refusal as usize, a.place);
     }
-    number(a.length as u64);
+    number(to, a.length as u64)
 }
 
 // An answer: absent, refused, or what is answered of an option and where that stands.
-fn answer(a: PlainAnswer) {
+fn answer(to: Stdout, a: PlainAnswer) -> io::Result<()> {
     if a.status == 0 {
-        name(0);
-        return;
+        return name(to, 0);
     }
     if a.status == 2 {
-        name(2);
-        two(b"", a.refusal as usize, a.place);
-        return;
+        name(to, 2)?;
+        return two(to, b"", a.refusal as usize, a.place);
     }
-    content(a);
-    named(16, a.field, 3);
-    two(b"", a.offset, a.start);
+    content(to, a)?;
+    named(to, 16, a.field, 3)?;
+    two(to, b"", a.offset, a.start)?;
     if a.several == 1 {
-        one(b" several", a.whole as u64);
+        one(to, b" several", a.whole as u64)?;
     }
+    Ok(())
 }
 
 // What a call gave of a lent buffer: how many bytes, and their sum; or the refusal. Then the sum of the bytes behind those, which is of the whole buffer on a refusal.
-fn given(g: PlainFilled, buffer: &[u8]) {
+fn given(to: Stdout, g: PlainFilled, buffer: &[u8]) -> io::Result<()> {
     if g.refusal == 0 {
-        number(g.size as u64);
-        number(sum(part(buffer, 0, g.size)));
+        number(to, g.size as u64)?;
+        number(to, sum(part(buffer, 0, g.size)))?;
     } else {
-        two(b" refused", g.refusal as usize, g.place);
+        two(to, b" refused", g.refusal as usize, g.place)?;
     }
-    one(b" rest", sum(part(buffer, g.size, buffer.len())));
-    word(b"\n");
+    one(to, b" rest", sum(part(buffer, g.size, buffer.len())))?;
+    word(to, b"\n")
 }
 
 // The line of the copy of a code into a lent buffer.
-pub fn copy(m: &[u8], code: u8, buffer: &mut [u8]) {
+pub fn copy(to: Stdout, m: &[u8], code: u8, buffer: &mut [u8]) -> io::Result<()> {
     console::fill(buffer, FIRST);
-    one(b"copy", code as u64);
-    given(dhcpopt_reader::dhcpopt_copy(m, code, buffer), buffer);
+    one(to, b"copy", code as u64)?;
+    given(to, dhcpopt_reader::dhcpopt_copy(m, code, buffer), buffer)
 }
 
-pub fn copy_whole(m: &[u8], code: u8) {
+pub fn copy_whole(to: Stdout, m: &[u8], code: u8) -> io::Result<()> {
     let mut buffer = [0u8; 1472];
-    copy(m, code, &mut buffer);
+    copy(to, m, code, &mut buffer)
 }
 
 // The lines of a code that the message holds, its lookup and its copy, and what is compared besides.
-pub fn look_up(m: &[u8], known: [u64; 4], code: u8) {
-    line(m, known, code);
-    copy_whole(m, code);
-    names::held(m, code);
+pub fn look_up(to: Stdout, m: &[u8], known: [u64; 4], code: u8) -> io::Result<()> {
+    line(to, m, known, code)?;
+    copy_whole(to, m, code)?;
+    names::held(to, m, code)
 }
 
 // The line of a lookup.
-pub fn line(m: &[u8], known: [u64; 4], code: u8) {
-    io::print_decimal(1, code as u64);
+pub fn line(to: Stdout, m: &[u8], known: [u64; 4], code: u8) -> io::Result<()> {
+    to.print(code)?;
     let a = dhcpopt_reader::dhcpopt_lookup(m, known[0], known[1], known[2], known[3], code);
-    answer(a);
-    word(b"\n");
-    names::answered(m, known, code, a);
+    answer(to, a)?;
+    word(to, b"\n")?;
+    names::answered(to, m, known, code, a)
 }
 
 // The line of the codes present.
-pub fn present(p: PlainCodes) {
+pub fn present(to: Stdout, p: PlainCodes) -> io::Result<()> {
     let w = p.words;
-    one(b"present", w[0]);
-    number(w[1]);
-    number(w[2]);
-    number(w[3]);
-    one(b" count", p.count as u64);
-    one(b" lowest", p.lowest as u64);
-    two(b" refusal", p.refusal as usize, p.place);
-    word(b"\n");
+    one(to, b"present", w[0])?;
+    number(to, w[1])?;
+    number(to, w[2])?;
+    number(to, w[3])?;
+    one(to, b" count", p.count as u64)?;
+    one(to, b" lowest", p.lowest as u64)?;
+    two(to, b" refusal", p.refusal as usize, p.place)?;
+    word(to, b"\n")
 }
 
 // The line of a lookup through an index.
-pub fn through(m: &[u8], index: &[u16], known: [u64; 4], code: u8) {
-    one(b"through", code as u64);
-    answer(dhcpopt_index::dhcpopt_index_lookup(
-        m, index, known[0], known[1], known[2], known[3], code,
-    ));
-    word(b"\n");
+pub fn through(to: Stdout, m: &[u8], index: &[u16], known: [u64; 4], code: u8) -> io::Result<()> {
+    one(to, b"through", code as u64)?;
+    answer(
+        to,
+        dhcpopt_index::dhcpopt_index_lookup(m, index, known[0], known[1], known[2], known[3], code),
+    )?;
+    word(to, b"\n")
 }
 
 // The line of building an index.
-pub fn build(m: &[u8], index: &mut [u16]) {
+pub fn build(to: Stdout, m: &[u8], index: &mut [u16]) -> io::Result<()> {
     let f = dhcpopt_index::dhcpopt_index_build(m, index);
     if f.refusal == 0 {
-        one(b"index", f.size as u64);
-        word(b"\n");
-        return;
+        one(to, b"index", f.size as u64)?;
+        return word(to, b"\n");
     }
-    two(b"index refused", f.refusal as usize, f.place);
-    word(b"\n");
+    two(to, b"index refused", f.refusal as usize, f.place)?;
+    word(to, b"\n")
 }
 
 // The line of the records that are written to a lent buffer.
-pub fn records(m: &[u8], sheet: &mut [u8]) {
+pub fn records(to: Stdout, m: &[u8], sheet: &mut [u8]) -> io::Result<()> {
     console::fill(sheet, FIRST);
-    word(b"records");
-    given(dhcpopt_reader::dhcpopt_records(m, sheet), sheet);
+    word(to, b"records")?;
+    given(to, dhcpopt_reader::dhcpopt_records(m, sheet), sheet)
 }
 
 // The line of the reply profile: the rules that are broken, number and place of a refusal.
-pub fn profile(m: &[u8]) {
+pub fn profile(to: Stdout, m: &[u8]) -> io::Result<()> {
     let p = dhcpopt_profile::dhcpopt_profile(m);
-    one(b"profile", p.broken as u64);
-    two(b" refusal", p.refusal as usize, p.place);
-    word(b"\n");
+    one(to, b"profile", p.broken as u64)?;
+    two(to, b" refusal", p.refusal as usize, p.place)?;
+    word(to, b"\n")
 }
 
 // The place and the bytes of a part, after a name and a code.
-fn shown(name: &[u8], code: u8, e: PlainExtent, bytes: &[u8]) {
-    one(name, code as u64);
-    number(e.start as u64);
-    number(e.length as u64);
-    console::bytes(bytes);
-    word(b"\n");
+fn shown(to: Stdout, name: &[u8], code: u8, e: PlainExtent, bytes: &[u8]) -> io::Result<()> {
+    one(to, name, code as u64)?;
+    number(to, e.start as u64)?;
+    number(to, e.length as u64)?;
+    console::bytes(to, bytes)?;
+    word(to, b"\n")
 }
 
 // The line of the data of a code: its place from the call for C, its bytes from the call that gives a part.
-pub fn data(m: &[u8], code: u8) {
+pub fn data(to: Stdout, m: &[u8], code: u8) -> io::Result<()> {
     shown(
+        to,
         b"data",
         code,
         dhcpopt_reader::dhcpopt_data(m, code),
         lookup::data(m, code),
-    );
+    )
 }
 
 // The line of the text of a code, likewise.
-pub fn text(m: &[u8], known: [u64; 4], code: u8) {
+pub fn text(to: Stdout, m: &[u8], known: [u64; 4], code: u8) -> io::Result<()> {
     shown(
+        to,
         b"text",
         code,
         dhcpopt_reader::dhcpopt_text(m, known[0], known[1], known[2], known[3], code),
         lookup::text(m, known, code),
-    );
+    )
 }
 
 // The addresses of a list, by the call for C; data have at most 63.
-fn by_calls(list: &[u8]) {
+fn by_calls(to: Stdout, list: &[u8]) -> io::Result<()> {
     let mut at: usize = 0;
     let mut left: usize = 64;
     while left > 0 {
@@ -200,21 +198,22 @@ fn by_calls(list: &[u8]) {
         if c.given != 1 {
             break;
         }
-        number(c.address as u64);
+        number(to, c.address as u64)?;
         at = c.next;
         left = left - 1;
     }
+    Ok(())
 }
 
 // The line of the address walk over the data of a code.
-pub fn addresses(m: &[u8], code: u8) {
-    one(b"walk", code as u64);
-    by_calls(lookup::data(m, code));
-    word(b"\n");
+pub fn addresses(to: Stdout, m: &[u8], code: u8) -> io::Result<()> {
+    one(to, b"walk", code as u64)?;
+    by_calls(to, lookup::data(m, code))?;
+    word(to, b"\n")
 }
 
 // The addresses of a list, by a reader.
-fn by_reader(list: &[u8]) {
+fn by_reader(to: Stdout, list: &[u8]) -> io::Result<()> {
     let mut at: usize = 0;
     let mut left: usize = 64;
     while left > 0 {
@@ -222,15 +221,16 @@ fn by_reader(list: &[u8]) {
         if !c.given {
             break;
         }
-        number(c.address as u64);
+        number(to, c.address as u64)?;
         at = c.next;
         left = left - 1;
     }
+    Ok(())
 }
 
 // The line of that walk.
-pub fn steps(m: &[u8], code: u8) {
-    one(b"steps", code as u64);
-    by_reader(lookup::data(m, code));
-    word(b"\n");
+pub fn steps(to: Stdout, m: &[u8], code: u8) -> io::Result<()> {
+    one(to, b"steps", code as u64)?;
+    by_reader(to, lookup::data(m, code))?;
+    word(to, b"\n")
 }

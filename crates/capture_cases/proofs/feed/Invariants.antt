@@ -1,8 +1,5 @@
 -- `capture_cases::feed` is safe and ends: a part is not empty, and ends within what is given. The measure is what is left of that. Assumes nothing.
-use borrow.Author.Rules.{rules}
-use native.Mathlib.Omega.{arith}
-use Prim.Native.Nat.{◌-◌, ◌≤◌}
-use lib.ListN.{length}
+use Rattle.std.proofs.Common.{length, ◌-◌, ◌≤◌}
 use Rattle.capture_cases.proofs.feed.Given as goal
 
 abbrev pub invariant-loop-at : goal.invariant-loop-at

@@ -1,9 +1,5 @@
 -- `capture_cases::feed_times` is safe and ends. The measure is the number of times that are left. Assumes nothing.
-use borrow.Author.Rules.{rules}
 use Rattle.capture_cases.proofs.feed_times.Given as goal
-
-abbrev pub invariant-loop-left : goal.invariant-loop-left
-invariant-loop-left l = Unit {0}
 
 abbrev pub decreases-loop-left : goal.decreases-loop-left
 decreases-loop-left l = l.left

@@ -1,5 +1,5 @@
--- `console::sum` meets its contract: what is kept and the bytes that are left give the number. Assumes nothing.
-use Rattle.std.proofs.Common.{◌≡◌, ℕ, suc, ◌+◌, ◌-◌, ◌*◌, ◌%◌, ◌<◌, ◌≤◌, List, length, get_or, drop, sym, refl, ap, ◌∙◌, ap₂, arith, drop_of_length-le, drop-cons, rules}
+-- `console::sum` meets its contract. Assumes nothing.
+use Rattle.std.proofs.Common.{◌≡◌, ℕ, suc, ◌+◌, ◌*◌, ◌%◌, ◌<◌, ◌≤◌, List, length, get_or, drop, sym, ap, ◌∙◌, arith, drop_of_length-le, drop-cons, rules}
 use Rattle.console.specs.Sum.{sum_of}
 use Rattle.console.proofs.sum.Goals as goal
 
@@ -11,12 +11,10 @@ ends : (s : List ℕ) (t i : ℕ) → length s ≤ i → sum_of t (drop i s) ≡
 unfolding sum_of
 ends s t i h = ap (sum_of t) (drop_of_length-le s h)
 
-pub loop-i-init : goal.loop-i-init
-loop-i-init c = (search rules, search rules, refl)
-
 pub loop-i-preserved : goal.loop-i-preserved
-loop-i-preserved c = let s : List ℕ = c.args.s.now in
-    (search rules, search rules, rw c.wide.ensures.0 (sym (step s c.loop-i.t c.loop-i.i (c.loop-i.i + 1) c.loop-i-test.true (omega arith))) ∙ c.loop-i.invariant.2)
+loop-i-preserved c =
+    let l = c.loop-i in
+    (search rules, search rules, rw c.wide.ensures.0 (sym (step c.args.s.now l.t l.i (l.i + 1) c.loop-i-test.true (omega arith))) ∙ l.invariant.2)
 
 pub returns : goal.returns
 returns c = sym (ends c.args.s.now c.loop-i.t c.loop-i.i c.loop-i-test.false) ∙ c.loop-i.invariant.2

@@ -1,5 +1,5 @@
--- `console::sum` meets its contract: what is kept and the bytes that are left give the number. Assumes nothing.
-use Rattle.std.proofs.Common.{◌≡◌, ℕ, suc, ◌+◌, ◌-◌, ◌*◌, ◌%◌, ◌<◌, ◌≤◌, List, length, get_or, drop, sym, refl, ap, ◌∙◌, ap₂, arith, drop_of_length-le, drop-cons, rules}
+-- `console::sum`: what is kept and the bytes that are left give the number. Assumes nothing.
+use Rattle.std.proofs.Common.{length, ◌-◌, ◌≡◌, ◌<◌, ◌≤◌, drop}
 use Rattle.console.specs.Sum.{sum_of}
 use Rattle.console.proofs.sum.Given as goal
 

@@ -4,5 +4,5 @@ use lib.ListN.{length-replicate}
 use Rattle.report_captures.proofs.Fillings.{printed}
 use Rattle.report_captures.proofs.reported.Goals as goal
 
-pub returns : goal.returns
-returns c = printed (replicate 1472 0) (replicate 8 0) (replicate 256 0) (replicate 256 0) (omega (arith, length-replicate {A = ℕ} 1472 0)) refl refl refl c.fill_all-t.ensures _ _ _ c.report-size.ensures.0 c.report-size.ensures.1
+pub returns-clause-ok : goal.returns-clause-ok
+returns-clause-ok c = printed (replicate 1472 0) (replicate 8 0) (replicate 256 0) (replicate 256 0) (omega (arith, length-replicate {A = ℕ} 1472 0)) refl refl refl c.in_ok-t.ensures.ok _ _ _ c.report-size.ensures.size c.report-size.ensures.text

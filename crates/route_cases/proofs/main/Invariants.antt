@@ -1,9 +1,5 @@
 -- `route_cases::main` is safe and ends. The measure is the number of cases that are left. Assumes nothing.
-use borrow.Author.Rules.{rules}
 use Rattle.route_cases.proofs.main.Given as goal
-
-abbrev pub invariant-loop-left : goal.invariant-loop-left
-invariant-loop-left l = Unit {0}
 
 abbrev pub decreases-loop-left : goal.decreases-loop-left
 decreases-loop-left l = l.left

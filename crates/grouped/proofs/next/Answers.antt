@@ -1,8 +1,0 @@
--- `grouped::next` is safe and ends: what is lent lies within its array. Assumes nothing.
-use borrow.Author.Rules.{rules}
-use mathlib.Core.Path.{sym}
-use lib.Seq.{length-take-le}
-use Rattle.grouped.proofs.next.Goals as goal
-
-pub slice_bounds-call-end : goal.slice_bounds-call-end
-slice_bounds-call-end c = sym (length-take-le _ _ (array-borrow-prefix-out c.before))

@@ -17,30 +17,30 @@ use Rattle.dhcpopt_index.proofs.Through.{of_zero, of_end, of_unfit, of_count, of
 use Rattle.dhcpopt_index.proofs.dhcpopt_index_lookup.Goals as goal
 
 pub returns-then-code-eq0 : goal.returns-then-code-eq0
-returns-then-code-eq0 c = c.of_refusal.ensures ∙ (let plain₁ : lookup_by kinds ((marked (c.args.k0 ∷ c.args.k1 ∷ c.args.k2 ∷ c.args.k3 ∷ []))) c.args.m.now c.args.index.now c.args.code ≡ x → plain_answer x ≡ plain_answer (lookup_by kinds ((marked (c.args.k0 ∷ c.args.k1 ∷ c.args.k2 ∷ c.args.k3 ∷ []))) c.args.m.now c.args.index.now c.args.code) = λ e. ap plain_answer (sym e) in plain₁ (of_zero ((marked (c.args.k0 ∷ c.args.k1 ∷ c.args.k2 ∷ c.args.k3 ∷ []))) c.args.m.now c.args.index.now c.args.code c.if-code-eq0.true))
+returns-then-code-eq0 c = c.of_refusal.ensures ∙ (ap plain_answer (sym (of_zero ((marked (c.args.k0 ∷ c.args.k1 ∷ c.args.k2 ∷ c.args.k3 ∷ []))) c.args.m.now c.args.index.now c.args.code c.if-code-eq0.true)))
 
 pub returns-then-code-eq255 : goal.returns-then-code-eq255
-returns-then-code-eq255 c = c.of_refusal-then-code-eq255.ensures ∙ (let plain₁ : lookup_by kinds ((marked (c.args.k0 ∷ c.args.k1 ∷ c.args.k2 ∷ c.args.k3 ∷ []))) c.args.m.now c.args.index.now c.args.code ≡ x → plain_answer x ≡ plain_answer (lookup_by kinds ((marked (c.args.k0 ∷ c.args.k1 ∷ c.args.k2 ∷ c.args.k3 ∷ []))) c.args.m.now c.args.index.now c.args.code) = λ e. ap plain_answer (sym e) in plain₁ (of_end ((marked (c.args.k0 ∷ c.args.k1 ∷ c.args.k2 ∷ c.args.k3 ∷ []))) c.args.m.now c.args.index.now c.args.code c.if-code-eq0.false c.if-code-eq255.true))
+returns-then-code-eq255 c = c.of_refusal-then-code-eq255.ensures ∙ (ap plain_answer (sym (of_end ((marked (c.args.k0 ∷ c.args.k1 ∷ c.args.k2 ∷ c.args.k3 ∷ []))) c.args.m.now c.args.index.now c.args.code c.if-code-eq0.false c.if-code-eq255.true)))
 
 pub returns-then-unfit-ne0 : goal.returns-then-unfit-ne0
 returns-then-unfit-ne0 c = c.dhcpopt_lookup-a.ensures
-    ∙ (let plain₁ : lookup_by kinds ((marked (c.args.k0 ∷ c.args.k1 ∷ c.args.k2 ∷ c.args.k3 ∷ []))) c.args.m.now c.args.index.now c.args.code ≡ x → plain_answer x ≡ plain_answer (lookup_by kinds ((marked (c.args.k0 ∷ c.args.k1 ∷ c.args.k2 ∷ c.args.k3 ∷ []))) c.args.m.now c.args.index.now c.args.code) = λ e. ap plain_answer (sym e) in plain₁ (of_unfit ((marked (c.args.k0 ∷ c.args.k1 ∷ c.args.k2 ∷ c.args.k3 ∷ []))) c.args.m.now c.args.index.now c.args.code c.if-code-eq0.false c.if-code-eq255.false (λ z. c.if-unfit-ne0.true (c.unfit.ensures ∙ z))))
+    ∙ (ap plain_answer (sym (of_unfit ((marked (c.args.k0 ∷ c.args.k1 ∷ c.args.k2 ∷ c.args.k3 ∷ []))) c.args.m.now c.args.index.now c.args.code c.if-code-eq0.false c.if-code-eq255.false (λ z. c.if-unfit-ne0.true (c.unfit.ensures ∙ z)))))
 
 pub returns-then-n-ne256 : goal.returns-then-n-ne256
 returns-then-n-ne256 c = c.of_refusal-then-n-ne256.ensures
-    ∙ (let plain₁ : lookup_by kinds ((marked (c.args.k0 ∷ c.args.k1 ∷ c.args.k2 ∷ c.args.k3 ∷ []))) c.args.m.now c.args.index.now c.args.code ≡ x → plain_answer x ≡ plain_answer (lookup_by kinds ((marked (c.args.k0 ∷ c.args.k1 ∷ c.args.k2 ∷ c.args.k3 ∷ []))) c.args.m.now c.args.index.now c.args.code) = λ e. ap plain_answer (sym e) in plain₁ (of_count ((marked (c.args.k0 ∷ c.args.k1 ∷ c.args.k2 ∷ c.args.k3 ∷ []))) c.args.m.now c.args.index.now c.args.code c.if-code-eq0.false c.if-code-eq255.false (sym c.unfit.ensures ∙ c.if-unfit-ne0.false) c.if-n-ne256.true))
+    ∙ (ap plain_answer (sym (of_count ((marked (c.args.k0 ∷ c.args.k1 ∷ c.args.k2 ∷ c.args.k3 ∷ []))) c.args.m.now c.args.index.now c.args.code c.if-code-eq0.false c.if-code-eq255.false (sym c.unfit.ensures ∙ c.if-unfit-ne0.false) c.if-n-ne256.true)))
 
 pub returns-then-entry-eq0 : goal.returns-then-entry-eq0
-returns-then-entry-eq0 c = c.of_refusal-then-entry-eq0.ensures ∙ (let plain₁ : lookup_by kinds ((marked (c.args.k0 ∷ c.args.k1 ∷ c.args.k2 ∷ c.args.k3 ∷ []))) c.args.m.now c.args.index.now c.args.code ≡ x → plain_answer x ≡ plain_answer (lookup_by kinds ((marked (c.args.k0 ∷ c.args.k1 ∷ c.args.k2 ∷ c.args.k3 ∷ []))) c.args.m.now c.args.index.now c.args.code) = λ e. ap plain_answer (sym e) in plain₁ ((let entered₁ : lookup_by kinds ((marked (c.args.k0 ∷ c.args.k1 ∷ c.args.k2 ∷ c.args.k3 ∷ []))) c.args.m.now c.args.index.now c.args.code ≡ by_entry kinds ((marked (c.args.k0 ∷ c.args.k1 ∷ c.args.k2 ∷ c.args.k3 ∷ []))) c.args.m.now c.args.code (get_or c.args.index.now c.wide.result 0) = of_entry ((marked (c.args.k0 ∷ c.args.k1 ∷ c.args.k2 ∷ c.args.k3 ∷ []))) c.args.m.now c.args.index.now c.args.code c.if-code-eq0.false c.if-code-eq255.false (sym c.unfit.ensures ∙ c.if-unfit-ne0.false) c.if-n-ne256.false ∙ ap (λ (k : ℕ). by_entry kinds ((marked (c.args.k0 ∷ c.args.k1 ∷ c.args.k2 ∷ c.args.k3 ∷ []))) c.args.m.now c.args.code (get_or c.args.index.now k 0)) (sym c.wide.ensures.0) in entered₁) ∙ of_nothing ((marked (c.args.k0 ∷ c.args.k1 ∷ c.args.k2 ∷ c.args.k3 ∷ []))) c.args.m.now c.args.code (get_or c.args.index.now c.wide.result 0) c.if-entry-eq0.true))
+returns-then-entry-eq0 c = c.of_refusal-then-entry-eq0.ensures ∙ (ap plain_answer (sym ((let entered₁ : lookup_by kinds ((marked (c.args.k0 ∷ c.args.k1 ∷ c.args.k2 ∷ c.args.k3 ∷ []))) c.args.m.now c.args.index.now c.args.code ≡ by_entry kinds ((marked (c.args.k0 ∷ c.args.k1 ∷ c.args.k2 ∷ c.args.k3 ∷ []))) c.args.m.now c.args.code (get_or c.args.index.now c.wide.result 0) = of_entry ((marked (c.args.k0 ∷ c.args.k1 ∷ c.args.k2 ∷ c.args.k3 ∷ []))) c.args.m.now c.args.index.now c.args.code c.if-code-eq0.false c.if-code-eq255.false (sym c.unfit.ensures ∙ c.if-unfit-ne0.false) c.if-n-ne256.false ∙ ap (λ (k : ℕ). by_entry kinds ((marked (c.args.k0 ∷ c.args.k1 ∷ c.args.k2 ∷ c.args.k3 ∷ []))) c.args.m.now c.args.code (get_or c.args.index.now k 0)) (sym c.wide.ensures.0) in entered₁) ∙ of_nothing ((marked (c.args.k0 ∷ c.args.k1 ∷ c.args.k2 ∷ c.args.k3 ∷ []))) c.args.m.now c.args.code (get_or c.args.index.now c.wide.result 0) c.if-entry-eq0.true)))
 
 pub overflow_cast-place : goal.overflow_cast-place
 overflow_cast-place c = record { fits = omega (arith, (let entry_fits₁ : get_or c.args.index.now c.wide.result 0 < 65536 = (c.shared_slice_known-3-1.given c.wide.result).fits in entry_fits₁)) }
 
 pub returns-then-entry : goal.returns-then-entry
-returns-then-entry c = c.dhcpopt_lookup-a-then-entry.ensures ∙ (let plain₁ : lookup_by kinds ((marked (c.args.k0 ∷ c.args.k1 ∷ c.args.k2 ∷ c.args.k3 ∷ []))) c.args.m.now c.args.index.now c.args.code ≡ x → plain_answer x ≡ plain_answer (lookup_by kinds ((marked (c.args.k0 ∷ c.args.k1 ∷ c.args.k2 ∷ c.args.k3 ∷ []))) c.args.m.now c.args.index.now c.args.code) = λ e. ap plain_answer (sym e) in plain₁ ((let entered₁ : lookup_by kinds ((marked (c.args.k0 ∷ c.args.k1 ∷ c.args.k2 ∷ c.args.k3 ∷ []))) c.args.m.now c.args.index.now c.args.code ≡ by_entry kinds ((marked (c.args.k0 ∷ c.args.k1 ∷ c.args.k2 ∷ c.args.k3 ∷ []))) c.args.m.now c.args.code (get_or c.args.index.now c.wide.result 0) = of_entry ((marked (c.args.k0 ∷ c.args.k1 ∷ c.args.k2 ∷ c.args.k3 ∷ []))) c.args.m.now c.args.index.now c.args.code c.if-code-eq0.false c.if-code-eq255.false (sym c.unfit.ensures ∙ c.if-unfit-ne0.false) c.if-n-ne256.false ∙ ap (λ (k : ℕ). by_entry kinds ((marked (c.args.k0 ∷ c.args.k1 ∷ c.args.k2 ∷ c.args.k3 ∷ []))) c.args.m.now c.args.code (get_or c.args.index.now k 0)) (sym c.wide.ensures.0) in entered₁) ∙ of_pieces ((marked (c.args.k0 ∷ c.args.k1 ∷ c.args.k2 ∷ c.args.k3 ∷ []))) c.args.m.now c.args.code (get_or c.args.index.now c.wide.result 0) c.if-entry-eq0.false c.if-entry.true))
+returns-then-entry c = c.dhcpopt_lookup-a-then-entry.ensures ∙ (ap plain_answer (sym ((let entered₁ : lookup_by kinds ((marked (c.args.k0 ∷ c.args.k1 ∷ c.args.k2 ∷ c.args.k3 ∷ []))) c.args.m.now c.args.index.now c.args.code ≡ by_entry kinds ((marked (c.args.k0 ∷ c.args.k1 ∷ c.args.k2 ∷ c.args.k3 ∷ []))) c.args.m.now c.args.code (get_or c.args.index.now c.wide.result 0) = of_entry ((marked (c.args.k0 ∷ c.args.k1 ∷ c.args.k2 ∷ c.args.k3 ∷ []))) c.args.m.now c.args.index.now c.args.code c.if-code-eq0.false c.if-code-eq255.false (sym c.unfit.ensures ∙ c.if-unfit-ne0.false) c.if-n-ne256.false ∙ ap (λ (k : ℕ). by_entry kinds ((marked (c.args.k0 ∷ c.args.k1 ∷ c.args.k2 ∷ c.args.k3 ∷ []))) c.args.m.now c.args.code (get_or c.args.index.now k 0)) (sym c.wide.ensures.0) in entered₁) ∙ of_pieces ((marked (c.args.k0 ∷ c.args.k1 ∷ c.args.k2 ∷ c.args.k3 ∷ []))) c.args.m.now c.args.code (get_or c.args.index.now c.wide.result 0) c.if-entry-eq0.false c.if-entry.true)))
 
 pub at_entry-requires : goal.at_entry-requires
 at_entry-requires c = ((fit_length c.args.m.now (sym c.unfit.ensures ∙ c.if-unfit-ne0.false)).0, omega (arith, (let entry_fits₁ : get_or c.args.index.now c.wide.result 0 < 65536 = (c.shared_slice_known-3-1.given c.wide.result).fits in entry_fits₁)), c.span_at-span.ensures)
 
 pub returns : goal.returns
-returns c = c.at_entry.ensures ∙ (let plain₁ : lookup_by kinds ((marked (c.args.k0 ∷ c.args.k1 ∷ c.args.k2 ∷ c.args.k3 ∷ []))) c.args.m.now c.args.index.now c.args.code ≡ x → plain_answer x ≡ plain_answer (lookup_by kinds ((marked (c.args.k0 ∷ c.args.k1 ∷ c.args.k2 ∷ c.args.k3 ∷ []))) c.args.m.now c.args.index.now c.args.code) = λ e. ap plain_answer (sym e) in plain₁ ((let entered₁ : lookup_by kinds ((marked (c.args.k0 ∷ c.args.k1 ∷ c.args.k2 ∷ c.args.k3 ∷ []))) c.args.m.now c.args.index.now c.args.code ≡ by_entry kinds ((marked (c.args.k0 ∷ c.args.k1 ∷ c.args.k2 ∷ c.args.k3 ∷ []))) c.args.m.now c.args.code (get_or c.args.index.now c.wide.result 0) = of_entry ((marked (c.args.k0 ∷ c.args.k1 ∷ c.args.k2 ∷ c.args.k3 ∷ []))) c.args.m.now c.args.index.now c.args.code c.if-code-eq0.false c.if-code-eq255.false (sym c.unfit.ensures ∙ c.if-unfit-ne0.false) c.if-n-ne256.false ∙ ap (λ (k : ℕ). by_entry kinds ((marked (c.args.k0 ∷ c.args.k1 ∷ c.args.k2 ∷ c.args.k3 ∷ []))) c.args.m.now c.args.code (get_or c.args.index.now k 0)) (sym c.wide.ensures.0) in entered₁) ∙ of_place ((marked (c.args.k0 ∷ c.args.k1 ∷ c.args.k2 ∷ c.args.k3 ∷ []))) c.args.m.now c.args.code (get_or c.args.index.now c.wide.result 0) c.if-entry-eq0.false c.if-entry.false))
+returns c = c.at_entry.ensures ∙ (ap plain_answer (sym ((let entered₁ : lookup_by kinds ((marked (c.args.k0 ∷ c.args.k1 ∷ c.args.k2 ∷ c.args.k3 ∷ []))) c.args.m.now c.args.index.now c.args.code ≡ by_entry kinds ((marked (c.args.k0 ∷ c.args.k1 ∷ c.args.k2 ∷ c.args.k3 ∷ []))) c.args.m.now c.args.code (get_or c.args.index.now c.wide.result 0) = of_entry ((marked (c.args.k0 ∷ c.args.k1 ∷ c.args.k2 ∷ c.args.k3 ∷ []))) c.args.m.now c.args.index.now c.args.code c.if-code-eq0.false c.if-code-eq255.false (sym c.unfit.ensures ∙ c.if-unfit-ne0.false) c.if-n-ne256.false ∙ ap (λ (k : ℕ). by_entry kinds ((marked (c.args.k0 ∷ c.args.k1 ∷ c.args.k2 ∷ c.args.k3 ∷ []))) c.args.m.now c.args.code (get_or c.args.index.now k 0)) (sym c.wide.ensures.0) in entered₁) ∙ of_place ((marked (c.args.k0 ∷ c.args.k1 ∷ c.args.k2 ∷ c.args.k3 ∷ []))) c.args.m.now c.args.code (get_or c.args.index.now c.wide.result 0) c.if-entry-eq0.false c.if-entry.false)))

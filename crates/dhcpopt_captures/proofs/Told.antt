@@ -32,7 +32,7 @@ use Rattle.report.specs.Printed.{Reports}
 use Rattle.report.proofs.Whole.{file_is_reported}
 use Rattle.dhcpopt_captures.specs.declared.PlainProgress.{PlainProgress}
 use Rattle.dhcpopt_captures.specs.Plain.{progress_of_value, plain_of, BeginsWith}
-use Rattle.dhcpopt_captures.specs.Told.{RecordsTo, arrived, and_on, PlaceTold, before_record, after_tag, after_high, in_message, refused, LeaseTold, none_told, both_told, ToldOf, After, BegunForC, FedForC, ProgressByCase, Says24, CapturesRefusedForC, CapturesReportedForC}
+use Rattle.dhcpopt_captures.specs.Told.{RecordsTo, arrived, and_on, PlaceTold, before_record, after_tag, after_high, in_message, refused, LeaseTold, none_told, both_told, ToldOf, After, BegunForC, FedForC, ProgressByCase, ProgressByCaseBoth, Says24, CapturesRefusedForC, CapturesReportedForC}
 
 abbrev at : ℕ → Stage → Tally → Run
 at i g x = record { began = i; stage = g; tally = x }
@@ -287,7 +287,10 @@ after_told f r message v h b all room t =
     }
 
 pub progress_by_case : ProgressByCase
-progress_by_case f r message v h b all room = (told f r message v h b all, after_told f r message v h b all room)
+progress_by_case = told
+
+pub progress_by_case_both : ProgressByCaseBoth
+progress_by_case_both f r message v h b all room = (told f r message v h b all, after_told f r message v h b all room)
 
 -- ---- The calls
 

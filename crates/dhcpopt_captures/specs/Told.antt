@@ -62,9 +62,13 @@ FedForC =
     (f part : List ℕ) (p r : PlainProgress) (message verdicts held bytes message' verdicts' held' bytes' : List ℕ) → AllBytes f → AllBytes part → After f p message verdicts held bytes
     → FeedsPlain part p message verdicts held bytes r message' verdicts' held' bytes' → After (f ++ part) r message' verdicts' held' bytes'
 
--- the struct case by case: what is told is all that there is to know. The lent buffer has 1,472 bytes
+-- the struct case by case
 abbrev pub ProgressByCase : Type 0
-ProgressByCase =
+ProgressByCase = (f : List ℕ) (r : PlainProgress) (message verdicts held bytes : List ℕ) → AllBytes f → After f r message verdicts held bytes → ToldOf f r message verdicts held bytes
+
+-- and what is told is all that there is to know. The lent buffer has 1,472 bytes
+abbrev pub ProgressByCaseBoth : Type 0
+ProgressByCaseBoth =
     (f : List ℕ) (r : PlainProgress) (message verdicts held bytes : List ℕ) → AllBytes f → 1472 ≤ length message
     → After f r message verdicts held bytes ↔ ToldOf f r message verdicts held bytes
 

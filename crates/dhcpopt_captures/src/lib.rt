@@ -4,7 +4,7 @@
 ghost use Rattle.std.specs.Prelude.{◌≡◌, ◌≤◌, length};
 ghost use Rattle.report.specs.Printed.{Reports};
 ghost use Rattle.dhcpopt_captures.specs.Plain.{progress_of_value, plain_of, BeginsWith, FeedsPlain};
-ghost use Rattle.dhcpopt_captures.specs.Told.{BegunForC, FedForC, ProgressByCase, CapturesRefusedForC, CapturesReportedForC};
+ghost use Rattle.dhcpopt_captures.specs.Told.{BegunForC, FedForC, ProgressByCase, ProgressByCaseBoth, CapturesRefusedForC, CapturesReportedForC};
 
 use captures::Progress;
 use tally::Lease;
@@ -70,7 +70,7 @@ fn plain(p: Progress) -> PlainProgress
 
 // What the calls' contracts come to, in the numbers of a file.
 pub fn proved()
-    ensures { BegunForC × FedForC × ProgressByCase × CapturesRefusedForC × CapturesReportedForC }
+    ensures { BegunForC × FedForC × ProgressByCase × ProgressByCaseBoth × CapturesRefusedForC × CapturesReportedForC }
 {}
 
 // Begins a tally: the lent numbers become zeros.

@@ -1,10 +1,9 @@
 -- One message more: the numbers stand for the tally with it. Assumes nothing.
-use Rattle.std.proofs.Common.{◌≡◌, ℕ, zero, suc, ◌+◌, ◌*◌, ◌%◌, ◌^◌, ◌<◌, ◌≤◌, List, [], ◌∷◌, length, get_or, take, sym, refl, ap, ◌∙◌, subst, ap₂, arith, ext_get_or, le-ltb, lt-ltb}
+use Rattle.std.proofs.Common.{◌≡◌, ℕ, zero, suc, ◌+◌, ◌%◌, ◌^◌, ◌<◌, ◌≤◌, List, [], ◌∷◌, length, get_or, take, sym, refl, ap, ◌∙◌, subst, ap₂, arith, ext_get_or, le-ltb, lt-ltb}
 use mathlib.Core.Option.{Option, none, some}
 use native.Mathlib.Decide.{dec_lt}
 use Rattle.options.specs.Reading.{Reading, refused, read_message}
 use Rattle.options.specs.Captures.{if_accepted, if_refused_by, if_holds, joined_size, lease_time, widened, Lease, no_lease, leases, Tally, raised, noted_as, noted}
-use Rattle.tally.specs.declared.Lease as coded
 use Rattle.tally.specs.declared.Time.{Time}
 use Rattle.tally.specs.Noted.{lease_in, time_in_value, widened_by, Raises, verdict_count, Notes, Lent}
 use Rattle.captures.specs.declared.Progress.{Progress}

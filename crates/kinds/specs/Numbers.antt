@@ -3,7 +3,7 @@
 use Rattle.std.specs.Prelude.{◌≡◌, List, [], Bool, true, false, cond, ◌↔◌, ℕ, ◌%◌, ◌≤◌, eqb, leb}
 use Rattle.std.proofs.Math.Option.{Option, none, some}
 use Rattle.options.specs.Reading.{either}
-use Rattle.options.specs.Kinds.{Kind, address, addresses, pairs, flag, octet, number16, numbers16, unsigned32, signed32, text, opaque, relay, routes, Lengths, is_length, Values, any, between, one_of, at_least, rising_from, destinations, ascii, suboptions, routed, value_fault_value, Row, rows, kind_by, fault, Value, broken, number, part, kinds}
+use Rattle.options.specs.Kinds.{Kind, address, addresses, pairs, flag, octet, number16, numbers16, unsigned32, signed32, text, opaque, relay, routes, Lengths, is_length, Values, any, between, one_of, at_least, rising_from, destinations, ascii, suboptions, routed, value_fault_value, Row, rows, fault, Value, broken, number, part, kinds}
 use Rattle.options.specs.Answers.{is_text_value}
 use Rattle.ranges.specs.Rows.{number_of, row_from}
 

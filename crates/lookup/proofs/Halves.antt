@@ -1,14 +1,13 @@
 -- A code in several pieces: where its first and its last piece stand, and when these two are all its bytes. Assumes nothing.
-use mathlib.Core.Path.{◌≡◌, refl, sym, ap, ap₂, ◌∙◌, subst}
+use mathlib.Core.Path.{◌≡◌, refl, sym, ap, ◌∙◌, subst}
 use mathlib.Core.List.{List, [], ◌∷◌, ◌++◌, append-nil}
-use mathlib.Core.Logic.{◌⊎◌, inl, inr}
+use mathlib.Core.Logic.{inl, inr}
 use Prim.Native.Nat.{ℕ, zero, suc, ◌+◌, ◌-◌, ◌≤◌, ◌<◌}
 use native.Mathlib.Omega.{arith}
 use lib.ListN.{length, get_or, take, drop, length-take, length-append, get_or-append}
 use lib.Seq.{get_or-take, get_or-drop, get_or-append-add}
-use Rattle.options.specs.Message.{Field, options, file, sname, start, bytes, turn, Opt, place, data_start, Stands, OptionAt, Standing, Earlier, In, Precedes, end_to_end}
+use Rattle.options.specs.Message.{Field, options, file, sname, start, bytes, turn, Opt, place, OptionAt, Standing, Earlier, In, Precedes, end_to_end}
 use Rattle.options.specs.Reading.{accepted, read_message, pieces}
-use Rattle.options.specs.ReadingClaims.{IsAccepted}
 use Rattle.theorems.proofs.Fields.{option_in_lem}
 use Rattle.theorems.proofs.Reading.{listed_stands, own_bytes}
 use Rattle.theorems.proofs.Pieces.{from_pieces, pieces_right}

@@ -2,13 +2,12 @@
 use mathlib.Core.Path.{◌≡◌, refl, sym, ap, ap₂, ◌∙◌, subst}
 use mathlib.Core.Bool.{Bool, true, false, cond}
 use mathlib.Core.List.{List, [], ◌∷◌, ◌++◌, append-nil}
-use mathlib.Core.Logic.{inl, inr}
-use mathlib.Core.Option.{Option, none, some}
-use Prim.Native.Nat.{ℕ, zero, suc, ◌+◌, ◌-◌, ◌%◌, ◌≤◌, ◌<◌}
+use mathlib.Core.Logic.{inl}
+use Prim.Native.Nat.{ℕ, zero, suc, ◌+◌, ◌-◌, ◌≤◌, ◌<◌}
 use native.Mathlib.Omega.{arith}
-use lib.Dec.{eqb, leb}
-use lib.ListN.{length, get_or, take, drop, replicate, length-take, length-append, length-replicate}
-use lib.Seq.{take_at, get_or-take}
+use lib.Dec.{eqb}
+use lib.ListN.{length, take, drop, replicate, length-take, length-append, length-replicate}
+use lib.Seq.{take_at}
 use borrow.Author.Tests.{eq-eqb, ne_eqb, eqb-true, eqb-false, le-leb, lt-leb}
 use Rattle.options.specs.Message.{Field, options, file, sname, start, bytes, Opt, data_start, place, In, end_to_end, Standing}
 use Rattle.options.specs.Reading.{Reading, accepted, refused, read_message, pieces}
@@ -16,7 +15,6 @@ use Rattle.options.specs.Kinds.{trimmed, kinds}
 use Rattle.options.specs.KindClaims.{AllBytes}
 use Rattle.options.specs.Answers as asked
 use Rattle.kinds.specs.Numbers.{kind_numbered, fault_numbered}
-use Rattle.theorems.proofs.View.{clash}
 use Rattle.theorems.proofs.Fields.{option_in_lem}
 use Rattle.theorems.proofs.Reading.{listed_stands, listed_bytes}
 use Rattle.theorems.proofs.Pieces.{from_pieces}

@@ -1,5 +1,5 @@
 -- What is answered of data by the number of a row: from all bytes, from the first four, and as a text. Assumes nothing.
-use mathlib.Core.Path.{◌≡◌, refl, sym, ap, ap₂, ◌∙◌}
+use mathlib.Core.Path.{◌≡◌, refl, sym, ap, ◌∙◌}
 use mathlib.Core.Bool.{Bool, true, false, cond}
 use mathlib.Core.List.{List}
 use mathlib.Core.Option.{Option, none, some}
@@ -7,7 +7,7 @@ use Prim.Native.Nat.{ℕ, zero, suc, ◌%◌, ◌<◌}
 use native.Mathlib.Omega.{arith}
 use lib.Dec.{eqb}
 use lib.ListN.{length, get_or}
-use borrow.Author.Tests.{eq-eqb, ne_eqb, eqb-true, eqb-false}
+use borrow.Author.Tests.{ne_eqb, eqb-true}
 use Rattle.options.specs.Reading.{either}
 use Rattle.options.specs.Kinds.{Kind, address, addresses, pairs, flag, octet, number16, numbers16, unsigned32, signed32, text, opaque, relay, routes, first16, first32, trimmed, Values, any, between, one_of, at_least, rising_from, destinations, ascii, suboptions, routed, is_length, value_fault_value, Row, row_of, kind_by, fault, unless, meaning, judged, Value, broken, has_row, judged_by, kinds}
 use Rattle.options.specs.Answers as asked

@@ -2,13 +2,13 @@
 use mathlib.Core.Path.{◌≡◌, refl, sym, ap, ap₂, ◌∙◌}
 use mathlib.Core.Bool.{Bool, true, false, cond}
 use mathlib.Core.List.{List, [], ◌∷◌, ◌++◌, append_assoc}
-use Prim.Native.Nat.{ℕ, zero, suc, ◌+◌, ◌-◌, ◌*◌, ◌≤◌, min}
+use Prim.Native.Nat.{ℕ, zero, suc, ◌+◌, ◌*◌, ◌≤◌, min}
 use lib.Dec.{eqb, ltb}
 use native.Mathlib.Omega.{arith}
 use lib.ListN.{length, get_or, drop, length-append, take}
 use borrow.Author.Tests.{eq-eqb, ne_eqb, lt-ltb, le-ltb}
 use Rattle.options.specs.Answers.{accepted_word, accepted_line, refused_line}
-use Rattle.options.specs.Captures.{Lease, no_lease, leases, Tally, Stage, ending_in, Ending, stopped_at, Run, begun, fed, messages_word, messages_line, refusals_lines, code_lines, lease_line, last_line, report_of, report, report_so_far}
+use Rattle.options.specs.Captures.{Lease, no_lease, leases, Tally, Stage, ending_in, Ending, stopped_at, Run, messages_word, messages_line, refusals_lines, code_lines, lease_line, last_line, report_of, report, report_so_far}
 use Rattle.captures_theorems.proofs.Runs.{run_is_the_file}
 use Rattle.tally.specs.Noted.{lease_of, lease_in}
 use Rattle.captures.specs.declared.Progress.{Progress}

@@ -1,11 +1,11 @@
 -- The routes from a place on. Assumes nothing.
-use mathlib.Core.Path.{◌≡◌, refl, sym, ap, ◌∙◌}
-use mathlib.Core.List.{List, [], ◌∷◌}
+use mathlib.Core.Path.{◌≡◌}
+use mathlib.Core.List.{List, ◌∷◌}
 use Prim.Native.Nat.{ℕ, suc, ◌+◌, ◌-◌, ◌≤◌, ◌<◌}
 use native.Mathlib.Omega.{arith}
 use lib.ListN.{length, get_or, drop, length-drop, drop_of_length-le}
 use lib.Seq.{drop-drop, drop-cons}
-use Rattle.options.specs.Kinds.{width_bytes, behind, route_fault_value, routes_fault_value}
+use Rattle.options.specs.Kinds.{width_bytes, behind, routes_fault_value}
 use Rattle.theorems.proofs.RouteRow.{route_wide, route_cut, route_right, route_sound, fault_first, fault_next}
 use Rattle.route_data.specs.Route.{fault_here}
 

@@ -1,10 +1,10 @@
 -- The writer's answers: a faulty route, an output too small, the routes written. Assumes nothing.
-use mathlib.Core.Path.{◌≡◌, refl, sym, ap, ◌∙◌}
-use mathlib.Core.List.{List, [], ◌∷◌, ◌++◌}
+use mathlib.Core.Path.{◌≡◌, refl, ap}
+use mathlib.Core.List.{List}
 use mathlib.Core.Option.{Option, none, some}
-use Prim.Native.Nat.{ℕ, ◌+◌, ◌≤◌, ◌<◌}
+use Prim.Native.Nat.{ℕ, ◌≤◌, ◌<◌}
 use native.Mathlib.Omega.{arith}
-use lib.ListN.{length, take, drop}
+use lib.ListN.{length}
 use Rattle.buffer.specs.Written.{Written}
 use Rattle.options.specs.Routes.{first_faulty, route_bytes, write_routes}
 use Rattle.route_theorems.proofs.Written.{writes_as, refuses}
@@ -12,7 +12,6 @@ use Rattle.filled.specs.declared.Given.TheVariants.{Bytes, Refused}
 use Rattle.filled.specs.Fill.{Fills}
 use Rattle.filled.proofs.Answers.{fills_unfilled, fills_small, fills_enough}
 use Rattle.buffer.proofs.Writing.{written_front}
-use Rattle.route_writer.specs.declared.Measured.{Measured}
 use Rattle.route_writer.specs.declared.Measured.TheVariants.{Faulty, Size}
 use Rattle.route_writer.specs.Measure.{measured}
 

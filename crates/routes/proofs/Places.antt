@@ -7,9 +7,8 @@ use lib.ListN.{length, get_or, take, drop, length-drop}
 use lib.Pow.{shr-shr}
 use lib.Seq.{drop-cons, drop-drop, get_or-drop, get_or-take}
 use Rattle.options.specs.Kinds.{first32, width_bytes, behind, route_fault_value}
-use Rattle.options.specs.Routes.{Route, cleared, route_in, RouteStep, next, done, unless_faulty, route_here, route_step}
+use Rattle.options.specs.Routes.{cleared, route_in, RouteStep, next, done, unless_faulty, route_here, route_step}
 use Rattle.route_data.specs.Route.{fault_here}
-use Rattle.route_data.proofs.Places.{route_none, route_within}
 use Rattle.theorems.proofs.RouteRow.{route_sound}
 use Rattle.route_theorems.proofs.Steps.{step_next}
 

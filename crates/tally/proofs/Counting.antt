@@ -7,7 +7,6 @@ use Rattle.options.specs.Reading.{pieces}
 use Rattle.options.specs.CodeSet.{marked, with_mark, no_codes}
 use Rattle.options.specs.Captures.{one_if_any}
 use Rattle.codeset.proofs.Words.{mark_same, mark_other}
-use Rattle.theorems.proofs.View.{clash}
 use Rattle.message.specs.Active.{active_options}
 use Rattle.records.specs.FieldRecords.{ActiveEnds}
 use Rattle.records.specs.Places.{Stands, left_at, Goes}

@@ -2,7 +2,7 @@
 use Rattle.std.proofs.Common.{◌≡◌, ℕ, ◌+◌, ◌%◌, ◌^◌, ◌<◌, ◌≤◌, min, max, Bool, true, false, cond, not, List, length, get_or, set, refl, ap, ◌∙◌, arith, length-set, get_or-set_other, get_or-set_same, eq-eqb, ne_eqb}
 use mathlib.Core.Option.{some}
 use native.Mathlib.Decide.{ℕ_discrete}
-use Rattle.options.specs.Captures.{Lease, no_lease, leases, widened}
+use Rattle.options.specs.Captures.{no_lease, leases, widened}
 use Rattle.tally.specs.declared.Lease as coded
 use Rattle.tally.specs.Noted.{lease_of, lease_in, Raises, only_at}
 

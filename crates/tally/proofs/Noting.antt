@@ -1,5 +1,5 @@
 -- One message noted, from what a walk tells of it. Assumes nothing.
-use Rattle.std.proofs.Common.{◌≡◌, ℕ, zero, suc, List, [], ◌∷◌, length, sym, refl, ap, ◌∙◌, subst, arith, ne_eqb}
+use Rattle.std.proofs.Common.{◌≡◌, ℕ, zero, suc, List, sym, refl, ap, ◌∙◌, subst, arith, ne_eqb}
 use mathlib.Core.Option.{none}
 use Rattle.options.specs.Message.{Opt}
 use Rattle.options.specs.Reading.{Reading, accepted, refused, read_message}

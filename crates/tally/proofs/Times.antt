@@ -1,8 +1,8 @@
 -- The lease time of a message, by the bytes of its option 51. Assumes nothing.
 use Rattle.std.proofs.Common.{◌≡◌, ℕ, ◌+◌, ◌-◌, ◌≤◌, List, [], ◌∷◌, length, get_or, take, drop, pos, sym, refl, ap, ◌∙◌, ap₂, arith, get_or-take, eq-eqb, ne_eqb}
-use mathlib.Core.Option.{Option, none, some}
+use mathlib.Core.Option.{none, some}
 use Rattle.options.specs.Message.{Opt, end_to_end}
-use Rattle.options.specs.Reading.{accepted, read_message, pieces}
+use Rattle.options.specs.Reading.{read_message, pieces}
 use Rattle.options.specs.Kinds.{unsigned32, broken, number, kinds, row_of, fault, meaning, judged, first32}
 use Rattle.options.specs.Answers.{shown, every_code, shown_number}
 use Rattle.options.specs.Captures.{lease_time}

@@ -1,5 +1,5 @@
 -- WHAT ONE MESSAGE MORE ADDS, in the numbers that the caller lends. Assumes nothing.
-use Rattle.std.specs.Prelude.{◌≡◌, ℕ, zero, suc, ◌+◌, ◌%◌, ◌^◌, ◌<◌, ◌≤◌, Bool, true, false, cond, List, [], ◌∷◌, length, ◌==◌, slice_index}
+use Rattle.std.specs.Prelude.{◌≡◌, ℕ, zero, suc, ◌+◌, ◌%◌, ◌^◌, ◌<◌, ◌≤◌, true, false, cond, List, [], ◌∷◌, length, ◌==◌, slice_index}
 use Rattle.std.proofs.Math.Option.{Option, none, some}
 use Rattle.options.specs.Message.{Opt, end_to_end}
 use Rattle.options.specs.Reading.{Reading, pieces}

@@ -1,5 +1,4 @@
 -- `address::step_at` meets its contract: each answer is the definition's step. Assumes nothing.
-use borrow.Author.Rules.{rules}
 use native.Mathlib.Omega.{arith}
 use Rattle.address.proofs.Laws.{step_given, step_done}
 use Rattle.address.proofs.step_at.Goals as goal

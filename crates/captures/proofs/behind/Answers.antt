@@ -1,5 +1,4 @@
 -- `captures::behind` meets its contract. Assumes nothing.
-use Rattle.std.proofs.Common.{refl, rules}
 use Rattle.captures.proofs.behind.Goals as goal
 
 pub returns : goal.returns

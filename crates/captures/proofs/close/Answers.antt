@@ -1,5 +1,4 @@
 -- `captures::close` meets its contract. Assumes nothing.
-use Rattle.std.proofs.Common.{rules}
 use Rattle.captures.proofs.Closing.{closes}
 use Rattle.captures.proofs.close.Goals as goal
 

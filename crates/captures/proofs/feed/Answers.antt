@@ -1,6 +1,6 @@
 -- `captures::feed` meets its contract. Assumes nothing.
-use Rattle.std.proofs.Common.{◌≡◌, ◌+◌, ◌-◌, ◌≤◌, length, take, drop, arith, length-drop, length-take-le, rules}
-use Rattle.captures.proofs.Runs.{Feeding, feeding_first, feeding_more, feeding_done, fitting_part, fitting_some}
+use Rattle.std.proofs.Common.{◌≡◌, ◌+◌, ◌-◌, ◌≤◌, length, take, drop, arith, length-drop, length-take-le}
+use Rattle.captures.proofs.Runs.{feeding_first, feeding_more, feeding_done, fitting_part, fitting_some}
 use Rattle.captures.proofs.feed.Goals as goal
 
 pub loop-i-init : goal.loop-i-init

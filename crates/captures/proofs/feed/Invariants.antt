@@ -1,6 +1,6 @@
 -- `captures::feed` meets its contract. Assumes nothing.
-use Rattle.std.proofs.Common.{◌≡◌, ◌+◌, ◌-◌, ◌≤◌, length, take, drop, arith, length-drop, length-take-le, rules}
-use Rattle.captures.proofs.Runs.{Feeding, feeding_first, feeding_more, feeding_done, fitting_part, fitting_some}
+use Rattle.std.proofs.Common.{◌-◌, length}
+use Rattle.captures.proofs.Runs.{Feeding}
 use Rattle.captures.proofs.feed.Given as goal
 
 abbrev pub invariant-loop-i : goal.invariant-loop-i

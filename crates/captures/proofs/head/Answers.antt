@@ -1,5 +1,5 @@
 -- `captures::head` meets its contract. Assumes nothing.
-use Rattle.std.proofs.Common.{arith, rules}
+use Rattle.std.proofs.Common.{arith}
 use Rattle.captures.proofs.Stages.{takes_tag, takes_high, takes_stopped, takes_low, takes_empty}
 use Rattle.captures.proofs.head.Goals as goal
 

@@ -1,5 +1,5 @@
 -- `captures::keep` meets its contract. Assumes nothing.
-use Rattle.std.proofs.Common.{arith, rules}
+use Rattle.std.proofs.Common.{arith}
 use Rattle.captures.proofs.Keeping.{keeps_none, keeps_all}
 use Rattle.captures.proofs.keep.Goals as goal
 

@@ -1,5 +1,5 @@
 -- `captures::note` meets its contract. Assumes nothing.
-use Rattle.std.proofs.Common.{sym, arith, length-take-le, rules}
+use Rattle.std.proofs.Common.{sym, arith, length-take-le}
 use Rattle.tally.proofs.Noting.{refused_noted}
 use Rattle.captures.proofs.note.Goals as goal
 

@@ -1,5 +1,5 @@
 -- `captures::record_length` meets its contract. Assumes nothing.
-use Rattle.std.proofs.Common.{◌+◌, ◌*◌, refl, inl, inr, arith, rules}
+use Rattle.std.proofs.Common.{◌+◌, ◌*◌, refl, inl, inr, arith}
 use Rattle.captures.proofs.Runs.{taken_tag, whole_record}
 use Rattle.captures.proofs.record_length.Goals as goal
 

@@ -1,5 +1,5 @@
 -- `captures::run_length` meets its contract. Assumes nothing.
-use Rattle.std.proofs.Common.{◌≡◌, ℕ, ◌⊎◌, refl, inl, inr, ⊎_elim, arith, rules}
+use Rattle.std.proofs.Common.{refl, inl, inr, ⊎_elim, arith}
 use Rattle.captures.proofs.Runs.{fits_message, fits_head}
 use Rattle.captures.proofs.run_length.Goals as goal
 

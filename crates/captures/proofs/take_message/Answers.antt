@@ -1,5 +1,5 @@
 -- `captures::take_message` meets its contract. Assumes nothing.
-use Rattle.std.proofs.Common.{arith, rules}
+use Rattle.std.proofs.Common.{arith}
 use Rattle.captures.proofs.Stages.{takes_some, takes_last}
 use Rattle.captures.proofs.take_message.Goals as goal
 

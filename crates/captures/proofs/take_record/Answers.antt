@@ -1,7 +1,5 @@
 -- `captures::take_record` meets its contract. Assumes nothing.
-use Rattle.std.proofs.Common.{ℕ, List, sym, subst, arith, rules}
-use Rattle.options.specs.Reading.{read_message}
-use Rattle.tally.specs.Noted.{Noted}
+use Rattle.std.proofs.Common.{arith}
 use Rattle.captures.proofs.Stages.{body_of, record_size, record_long, takes_record}
 use Rattle.captures.proofs.take_record.Goals as goal
 

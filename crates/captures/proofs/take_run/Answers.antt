@@ -1,5 +1,5 @@
 -- `captures::take_run` meets its contract. Assumes nothing.
-use Rattle.std.proofs.Common.{arith, rules}
+use Rattle.std.proofs.Common.{arith}
 use Rattle.captures.proofs.Runs.{takes_byte, is_record, is_byte}
 use Rattle.captures.proofs.take_run.Goals as goal
 

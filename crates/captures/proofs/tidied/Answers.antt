@@ -1,5 +1,5 @@
 -- `captures::tidied` meets its contract. Assumes nothing.
-use Rattle.std.proofs.Common.{arith, rules, le-ltb, lt-ltb}
+use Rattle.std.proofs.Common.{arith, le-ltb, lt-ltb}
 use Rattle.captures.proofs.tidied.Goals as goal
 
 pub returns-then-p : goal.returns-then-p

@@ -1,5 +1,4 @@
 -- `kinds::above_fault` meets its contract: no code from 77 on has a row, but for 82 and 121. Assumes nothing.
-use borrow.Author.Rules.{rules}
 use native.Mathlib.Omega.{arith}
 use mathlib.Core.Path.{sym, ap, ◌∙◌}
 use Prim.Native.Nat.{ℕ}

@@ -1,10 +1,7 @@
 -- `kinds::destinations_fit` meets its contract: the pairs from i on are judged as all are. Assumes nothing.
 use borrow.Author.Rules.{rules}
 use native.Mathlib.Omega.{arith}
-use mathlib.Core.Path.{◌≡◌, refl, sym, ◌∙◌}
-use Prim.Native.Nat.{◌-◌, ◌≤◌}
-use lib.ListN.{length, drop}
-use Rattle.options.specs.Kinds.{no_zero_first, addresses_of}
+use mathlib.Core.Path.{refl, sym, ◌∙◌}
 use Rattle.kinds.proofs.Walks.{first_end, first_zero, first_last, first_next}
 use Rattle.kinds.proofs.destinations_fit.Goals as goal
 

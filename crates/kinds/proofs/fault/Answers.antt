@@ -1,5 +1,4 @@
 -- `kinds::fault` meets its contract: by the number of the code's row, or as `above_fault` says. Assumes nothing.
-use borrow.Author.Rules.{rules}
 use mathlib.Core.Path.{ap, ◌∙◌}
 use Prim.Native.Nat.{ℕ, ◌%◌}
 use native.Mathlib.Omega.{arith}

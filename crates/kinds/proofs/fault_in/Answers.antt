@@ -1,6 +1,4 @@
 -- `kinds::fault_in` meets its contract: by the two rules of the row. Assumes nothing.
-use borrow.Author.Rules.{rules}
-use borrow.Author.Tests.{not-true, not-false}
 use mathlib.Core.Path.{sym, ◌∙◌}
 use Rattle.kinds.specs.Numbers.{row_at, fault_numbered}
 use Rattle.kinds.proofs.Numbering.{fault_rules}

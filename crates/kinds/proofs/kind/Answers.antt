@@ -1,5 +1,4 @@
 -- `kinds::kind` meets its contract: by the number of the code's row. Assumes nothing.
-use borrow.Author.Rules.{rules}
 use mathlib.Core.Path.{ap, ◌∙◌}
 use Rattle.kinds.specs.Numbers.{kind_numbered}
 use Rattle.kinds.proofs.Numbering.{kind_numbered_lem}

@@ -1,5 +1,4 @@
 -- `kinds::length_fits` meets its contract, arm by arm. Assumes nothing.
-use borrow.Author.Rules.{rules}
 use borrow.Author.Tests.{ne_eqb}
 use native.Mathlib.Omega.{arith}
 use Prim.Native.Nat.{◌%◌}

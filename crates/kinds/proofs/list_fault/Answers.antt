@@ -1,7 +1,5 @@
 -- `kinds::list_fault` meets its contract. Assumes nothing.
-use borrow.Author.Rules.{rules}
 use borrow.Author.Tests.{le-leb, lt-leb}
-use native.Mathlib.Omega.{arith}
 use Rattle.kinds.proofs.list_fault.Goals as goal
 
 pub returns-then-row-ge-RELAY : goal.returns-then-row-ge-RELAY

@@ -1,5 +1,4 @@
 -- `kinds::low_fault` meets its contract: as `fault_in`, without the kinds from 12 on. Assumes nothing.
-use borrow.Author.Rules.{rules}
 use borrow.Author.Tests.{lt-leb}
 use mathlib.Core.Path.{sym, ◌∙◌}
 use Rattle.kinds.specs.Numbers.{row_at, fault_numbered}

@@ -1,11 +1,8 @@
 -- `kinds::never_falling` meets its contract: the numbers from i on, the first at least `least`, are judged as all are from 68. Assumes nothing.
-use borrow.Author.Rules.{rules}
-use native.Mathlib.Omega.{arith}
-use mathlib.Core.Path.{◌≡◌, refl, sym, ◌∙◌}
+use mathlib.Core.Path.{◌≡◌}
 use Prim.Native.Nat.{◌-◌, ◌≤◌}
 use lib.ListN.{length, drop}
 use Rattle.options.specs.Kinds.{rising, numbers_of}
-use Rattle.kinds.proofs.Walks.{rise_end, rise_falls, rise_next}
 use Rattle.kinds.proofs.never_falling.Given as goal
 
 abbrev pub invariant-loop-i : goal.invariant-loop-i

@@ -1,5 +1,4 @@
 -- `kinds::number_fault` meets its contract, arm by arm. Assumes nothing.
-use borrow.Author.Rules.{rules}
 use native.Mathlib.Omega.{arith}
 use mathlib.Core.Path.{◌≡◌, ap, ◌∙◌}
 use Prim.Native.Nat.{◌%◌}

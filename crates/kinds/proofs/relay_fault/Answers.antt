@@ -1,6 +1,4 @@
 -- `kinds::relay_fault` meets its contract: by the two rules of the row of 82. Assumes nothing.
-use borrow.Author.Rules.{rules}
-use borrow.Author.Tests.{not-true, not-false}
 use mathlib.Core.Path.{sym, ◌∙◌}
 use Rattle.kinds.proofs.High.{relay_rules_lem}
 use Rattle.kinds.proofs.relay_fault.Goals as goal

@@ -1,6 +1,4 @@
 -- `kinds::routes_fault` meets its contract: by the two rules of the row of 121. Assumes nothing.
-use borrow.Author.Rules.{rules}
-use borrow.Author.Tests.{not-true, not-false}
 use mathlib.Core.Path.{sym, ◌∙◌}
 use Rattle.kinds.proofs.High.{routes_rules}
 use Rattle.kinds.proofs.routes_fault.Goals as goal

@@ -1,5 +1,4 @@
 -- `kinds::stepped` meets its contract. Assumes nothing.
-use borrow.Author.Rules.{rules}
 use borrow.Author.Tests.{le-leb, lt-leb}
 use Rattle.kinds.proofs.stepped.Goals as goal
 

@@ -1,10 +1,7 @@
 -- `kinds::suboptions_fault` meets its contract: the sub-options from a place on are judged as all are. Assumes nothing.
 use borrow.Author.Rules.{rules}
 use native.Mathlib.Omega.{arith}
-use mathlib.Core.Path.{◌≡◌, refl, sym, ap, ◌∙◌}
-use Prim.Native.Nat.{ℕ, ◌+◌, ◌-◌, ◌≤◌}
-use lib.ListN.{length, get_or, drop}
-use Rattle.options.specs.SubOptions.{sub_options, fill_fault}
+use mathlib.Core.Path.{refl, sym, ◌∙◌}
 use Rattle.kinds.proofs.Walks.{subs_end, subs_cut, subs_past, subs_next}
 use Rattle.kinds.proofs.suboptions_fault.Goals as goal
 

@@ -1,12 +1,8 @@
 -- `kinds::text_fits` meets its contract: the text from i on is judged as the whole is. Assumes nothing.
-use borrow.Author.Rules.{rules}
-use borrow.Author.Tests.{not-true, not-false}
-use native.Mathlib.Omega.{arith}
-use mathlib.Core.Path.{◌≡◌, sym, ◌∙◌}
+use mathlib.Core.Path.{◌≡◌}
 use Prim.Native.Nat.{◌-◌, ◌≤◌}
 use lib.ListN.{take, drop}
 use Rattle.options.specs.Kinds.{trimmed, all_text, text_fits_value}
-use Rattle.kinds.proofs.Walks.{trimmed_within, text_end, text_stop, text_next}
 use Rattle.kinds.proofs.text_fits.Given as goal
 
 abbrev pub invariant-loop-i : goal.invariant-loop-i

@@ -2,8 +2,6 @@
 use borrow.Author.Rules.{rules}
 use native.Mathlib.Omega.{arith}
 use mathlib.Core.Path.{◌≡◌, sym, ◌∙◌}
-use Prim.Native.Nat.{◌≤◌}
-use lib.ListN.{length, take}
 use lib.Seq.{take-length}
 use Rattle.options.specs.Kinds.{trimmed}
 use Rattle.kinds.proofs.Walks.{trim_drop, trim_stop}

@@ -1,7 +1,5 @@
 -- `kinds::value_fault` meets its contract: one of the parts of the rule. Assumes nothing.
-use borrow.Author.Rules.{rules}
 use borrow.Author.Tests.{le-leb, lt-leb}
-use native.Mathlib.Omega.{arith}
 use mathlib.Core.Path.{sym, ◌∙◌}
 use Rattle.kinds.proofs.value_fault.Goals as goal
 

@@ -1,5 +1,4 @@
 -- `lookup::answer_in` meets its contract. Assumes nothing.
-use borrow.Author.Rules.{rules}
 use native.Mathlib.Omega.{arith}
 use native.Mathlib.Nat.{add-sub_cancel_left}
 use mathlib.Core.Path.{sym, ap, ap₂, ◌∙◌}

@@ -1,9 +1,8 @@
 -- `lookup::by_first_four` meets its contract. Assumes nothing.
-use borrow.Author.Rules.{rules}
 use mathlib.Core.Path.{sym, ap, ◌∙◌}
 use mathlib.Core.List.{List}
 use Prim.Native.Nat.{ℕ}
-use lib.ListN.{length, take}
+use lib.ListN.{take}
 use lib.Seq.{length-take-le, get_or-take}
 use Rattle.options.specs.Answers as asked
 use Rattle.kinds.specs.Numbers.{row_at, number_fault_value}

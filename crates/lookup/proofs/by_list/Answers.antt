@@ -1,10 +1,9 @@
 -- `lookup::by_list` meets its contract. Assumes nothing.
-use borrow.Author.Rules.{rules}
 use native.Mathlib.Omega.{arith}
 use mathlib.Core.Path.{◌≡◌, sym, ap, ◌∙◌}
 use mathlib.Core.List.{List}
 use Prim.Native.Nat.{ℕ}
-use lib.ListN.{length, take, length-replicate}
+use lib.ListN.{length, length-replicate}
 use lib.Seq.{length-take-le, take_all}
 use Rattle.options.specs.Answers as asked
 use Rattle.kinds.specs.Numbers.{row_at, list_fault_value}

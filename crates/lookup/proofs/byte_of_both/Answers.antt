@@ -1,5 +1,4 @@
 -- `lookup::byte_of_both` meets its contract. Assumes nothing.
-use borrow.Author.Rules.{rules}
 use mathlib.Core.Path.{◌∙◌}
 use Rattle.lookup.proofs.Halves.{byte_first, byte_last}
 use Rattle.lookup.proofs.byte_of_both.Goals as goal

@@ -1,5 +1,4 @@
 -- `lookup::copy` meets its contract. Assumes nothing.
-use borrow.Author.Rules.{rules}
 use Rattle.options.specs.Answers as asked
 use Rattle.filled.proofs.Answers.{fills_unfilled}
 use Rattle.lookup.proofs.Laws.{copy_zero, copy_end}

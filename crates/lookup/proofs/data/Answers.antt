@@ -1,5 +1,4 @@
 -- `lookup::data` meets its contract. Assumes nothing.
-use borrow.Author.Rules.{rules}
 use Rattle.lookup.proofs.data.Goals as goal
 
 pub returns : goal.returns

@@ -1,5 +1,4 @@
 -- `lookup::data_extent` meets its contract. Assumes nothing.
-use borrow.Author.Rules.{rules}
 use Rattle.lookup.proofs.Laws.{data_zero, data_end}
 use Rattle.lookup.proofs.data_extent.Goals as goal
 

@@ -1,5 +1,4 @@
 -- `lookup::data_in` meets its contract. Assumes nothing.
-use borrow.Author.Rules.{rules}
 use native.Mathlib.Omega.{arith}
 use mathlib.Core.Path.{◌∙◌}
 use Rattle.options.specs.KindClaims.{AllBytes}

@@ -1,7 +1,5 @@
 -- `lookup::judge_head` meets its contract. Assumes nothing.
-use borrow.Author.Rules.{rules}
-use borrow.Author.Tests.{not-true, not-false}
-use mathlib.Core.Path.{◌≡◌, refl, sym, ap, ◌∙◌}
+use mathlib.Core.Path.{sym, ap, ◌∙◌}
 use Prim.Native.Nat.{ℕ}
 use Rattle.options.specs.Answers as asked
 use Rattle.kinds.specs.Numbers.{kind_at}

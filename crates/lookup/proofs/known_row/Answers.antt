@@ -1,5 +1,4 @@
 -- `lookup::known_row` meets its contract. Assumes nothing.
-use borrow.Author.Rules.{rules}
 use mathlib.Core.Path.{◌≡◌, sym, ◌∙◌}
 use mathlib.Core.Bool.{true, false}
 use Rattle.options.specs.CodeSet.{marked}

@@ -1,5 +1,4 @@
 -- `lookup::lookup` meets its contract. Assumes nothing.
-use borrow.Author.Rules.{rules}
 use Rattle.options.specs.CodeSet.{marked}
 use Rattle.lookup.proofs.Laws.{lookup_zero, lookup_end}
 use Rattle.lookup.proofs.lookup.Goals as goal

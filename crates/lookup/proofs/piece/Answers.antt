@@ -1,5 +1,4 @@
 -- `lookup::piece` meets its contract. Assumes nothing.
-use borrow.Author.Rules.{rules}
 use native.Mathlib.Nat.{add-sub_cancel_left}
 use Rattle.lookup.proofs.piece.Goals as goal
 

@@ -1,5 +1,4 @@
 -- `lookup::text` meets its contract. Assumes nothing.
-use borrow.Author.Rules.{rules}
 use Rattle.lookup.proofs.text.Goals as goal
 
 pub returns : goal.returns

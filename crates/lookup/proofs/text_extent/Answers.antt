@@ -1,5 +1,4 @@
 -- `lookup::text_extent` meets its contract. Assumes nothing.
-use borrow.Author.Rules.{rules}
 use mathlib.Core.Path.{ap}
 use Rattle.options.specs.CodeSet.{marked}
 use Rattle.options.specs.Answers.{text_of, text_in_value}

@@ -1,12 +1,11 @@
 -- `lookup::text_in` meets its contract. Assumes nothing.
-use borrow.Author.Rules.{rules}
 use native.Mathlib.Omega.{arith}
 use native.Mathlib.Nat.{add-sub_cancel_left}
 use mathlib.Core.Path.{◌≡◌, sym, ap, ◌∙◌}
 use mathlib.Core.List.{List}
 use Prim.Native.Nat.{ℕ}
 use lib.ListN.{take, drop}
-use borrow.Author.Tests.{not-true, not-false, eqb-false}
+use borrow.Author.Tests.{eqb-false}
 use Rattle.options.specs.Message.{Opt}
 use Rattle.options.specs.Reading.{pieces}
 use Rattle.options.specs.CodeSet.{marked}

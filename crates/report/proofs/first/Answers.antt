@@ -1,5 +1,4 @@
 -- `report::first` meets its contract. Assumes nothing.
-use borrow.Author.Rules.{rules}
 use native.Mathlib.Omega.{arith}
 use Rattle.report.proofs.Lines.{no_first}
 use Rattle.report.proofs.first.Goals as goal

@@ -1,5 +1,4 @@
 -- `report::put_code` meets its contract. Assumes nothing.
-use borrow.Author.Rules.{rules}
 use Rattle.text.proofs.Putting.{puts_as, puts_more}
 use Rattle.report.proofs.Lines.{code_made}
 use Rattle.report.proofs.put_code.Goals as goal

@@ -1,10 +1,6 @@
 -- `report::put_codes` meets its contract. Assumes nothing.
-use borrow.Author.Rules.{rules}
 use native.Mathlib.Omega.{arith}
-use Prim.Native.Nat.{◌-◌}
-use lib.ListN.{drop}
-use Rattle.text.proofs.Putting.{Left, left_all, left_more, left_none}
-use Rattle.options.specs.Captures.{code_lines}
+use Rattle.text.proofs.Putting.{left_all, left_more, left_none}
 use Rattle.report.proofs.Lines.{codes_next, codes_none}
 use Rattle.report.proofs.put_codes.Goals as goal
 

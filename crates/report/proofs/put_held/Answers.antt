@@ -1,5 +1,4 @@
 -- `report::put_held` meets its contract. Assumes nothing.
-use borrow.Author.Rules.{rules}
 use borrow.Author.Tests.{eq-eqb, ne_eqb}
 use Rattle.text.proofs.Putting.{puts_none}
 use Rattle.report.proofs.put_held.Goals as goal

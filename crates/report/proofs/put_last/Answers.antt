@@ -1,5 +1,4 @@
 -- `report::put_last` meets its contract. Assumes nothing.
-use borrow.Author.Rules.{rules}
 use Rattle.text.proofs.Putting.{puts_as, puts_none}
 use Rattle.report.proofs.Lines.{nothing_last, refused_last}
 use Rattle.report.proofs.put_last.Goals as goal

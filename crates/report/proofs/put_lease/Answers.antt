@@ -1,5 +1,4 @@
 -- `report::put_lease` meets its contract. Assumes nothing.
-use borrow.Author.Rules.{rules}
 use Rattle.text.proofs.Putting.{puts_as}
 use Rattle.report.proofs.Lines.{no_lease_line, lease_two}
 use Rattle.report.proofs.put_lease.Goals as goal

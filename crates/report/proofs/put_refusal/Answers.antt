@@ -1,5 +1,4 @@
 -- `report::put_refusal` meets its contract. Assumes nothing.
-use borrow.Author.Rules.{rules}
 use Rattle.text.proofs.Putting.{puts_as}
 use Rattle.report.proofs.Lines.{refusal_two}
 use Rattle.report.proofs.put_refusal.Goals as goal

@@ -1,11 +1,8 @@
 -- `report::put_refusals` meets its contract. Assumes nothing.
-use borrow.Author.Rules.{rules}
-use native.Mathlib.Omega.{arith}
 use Prim.Native.Nat.{◌-◌}
 use lib.ListN.{length, drop}
-use Rattle.text.proofs.Putting.{Left, left_all, left_more, left_none}
+use Rattle.text.proofs.Putting.{Left}
 use Rattle.options.specs.Captures.{refusals_lines}
-use Rattle.report.proofs.Lines.{refusals_next, refusals_none}
 use Rattle.report.proofs.put_refusals.Given as goal
 
 abbrev pub invariant-loop-k : goal.invariant-loop-k

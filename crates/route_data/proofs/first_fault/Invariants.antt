@@ -1,12 +1,8 @@
 -- `route_data::first_fault` meets its contract: the routes from a place on are judged as all are. Assumes nothing.
-use borrow.Author.Rules.{rules}
-use native.Mathlib.Omega.{arith}
-use mathlib.Core.Path.{◌≡◌, refl, sym, ap, ◌∙◌}
-use Prim.Native.Nat.{ℕ, ◌+◌, ◌-◌, ◌≤◌}
-use lib.ListN.{length, get_or, drop}
-use Rattle.options.specs.Kinds.{width_bytes, routes_fault_value}
-use Rattle.route_data.specs.Route.{fault_here}
-use Rattle.route_data.proofs.Places.{routes_end, routes_stop, route_within, routes_next}
+use mathlib.Core.Path.{◌≡◌}
+use Prim.Native.Nat.{◌-◌, ◌≤◌}
+use lib.ListN.{length, drop}
+use Rattle.options.specs.Kinds.{routes_fault_value}
 use Rattle.route_data.proofs.first_fault.Given as goal
 
 abbrev pub invariant-loop-at : goal.invariant-loop-at

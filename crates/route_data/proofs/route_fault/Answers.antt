@@ -1,5 +1,4 @@
 -- `route_data::route_fault` meets its contract, by the bytes at the place. Assumes nothing.
-use borrow.Author.Rules.{rules}
 use native.Mathlib.Omega.{arith}
 use mathlib.Core.Path.{sym}
 use Rattle.route_data.proofs.Places.{route_none, route_at_wide, route_at_cut, route_at_right}

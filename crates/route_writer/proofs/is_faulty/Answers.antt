@@ -1,7 +1,5 @@
 -- `route_writer::is_faulty` meets its contract. Assumes nothing.
-use borrow.Author.Rules.{rules}
-use mathlib.Core.Path.{◌≡◌, sym, ◌∙◌}
-use native.Mathlib.Omega.{arith}
+use mathlib.Core.Path.{sym}
 use lib.ListN.{drop}
 use Rattle.routes.proofs.Places.{first_four}
 use Rattle.route_writer.proofs.One.{at_short, at_wide, at_bits}

@@ -1,13 +1,11 @@
 -- `route_writer::measure` meets its contract. Assumes nothing.
-use borrow.Author.Rules.{rules}
 use mathlib.Core.Path.{◌≡◌, sym, ap, ◌∙◌}
-use mathlib.Core.Bool.{Bool, true, false}
-use Prim.Native.Nat.{◌+◌, ◌-◌, ◌≤◌}
+use mathlib.Core.Bool.{true, false}
 use native.Mathlib.Omega.{arith}
-use lib.ListN.{length, drop}
+use lib.ListN.{drop}
 use Rattle.route_writer.specs.Measure.{faulty_at}
 use Rattle.route_writer.proofs.One.{take_rest}
-use Rattle.route_writer.proofs.Measuring.{Measuring, measure_none, measure_begins, measure_ends, measure_faulty, whole_here, narrow_here, measure_on}
+use Rattle.route_writer.proofs.Measuring.{measure_none, measure_begins, measure_ends, measure_faulty, whole_here, narrow_here, measure_on}
 use Rattle.route_writer.proofs.measure.Goals as goal
 
 pub returns-then-s-eq0 : goal.returns-then-s-eq0

@@ -1,13 +1,7 @@
 -- `route_writer::measure` meets its contract. Assumes nothing.
-use borrow.Author.Rules.{rules}
-use mathlib.Core.Path.{◌≡◌, sym, ap, ◌∙◌}
-use mathlib.Core.Bool.{Bool, true, false}
-use Prim.Native.Nat.{◌+◌, ◌-◌, ◌≤◌}
-use native.Mathlib.Omega.{arith}
-use lib.ListN.{length, drop}
-use Rattle.route_writer.specs.Measure.{faulty_at}
-use Rattle.route_writer.proofs.One.{take_rest}
-use Rattle.route_writer.proofs.Measuring.{Measuring, measure_none, measure_begins, measure_ends, measure_faulty, whole_here, narrow_here, measure_on}
+use Prim.Native.Nat.{◌-◌}
+use lib.ListN.{length}
+use Rattle.route_writer.proofs.Measuring.{Measuring}
 use Rattle.route_writer.proofs.measure.Given as goal
 
 abbrev pub invariant-loop-at : goal.invariant-loop-at

@@ -1,8 +1,5 @@
 -- `route_writer::put_route` meets its contract. Assumes nothing.
-use borrow.Author.Rules.{rules}
-use mathlib.Core.Path.{◌≡◌, sym, ◌∙◌}
 use native.Mathlib.Omega.{arith}
-use lib.ListN.{length}
 use Rattle.route_writer.proofs.Laying.{second_length, third_length, route_placed}
 use Rattle.route_writer.proofs.put_route.Goals as goal
 

@@ -1,6 +1,6 @@
 -- `route_writer::set_past` meets its contract. Assumes nothing.
 use borrow.Author.Rules.{rules}
-use mathlib.Core.Path.{◌≡◌, ap}
+use mathlib.Core.Path.{ap}
 use mathlib.Core.Bool.{not}
 use mir.Syntax.{w32}
 use mir.Val.{Fits}

@@ -1,5 +1,5 @@
 -- `tally::count_first` meets its contract. Assumes nothing.
-use Rattle.std.proofs.Common.{arith, rules}
+use Rattle.std.proofs.Common.{arith}
 use Rattle.tally.proofs.count_first.Goals as goal
 
 pub returns : goal.returns

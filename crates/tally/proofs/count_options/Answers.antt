@@ -1,10 +1,9 @@
 -- `tally::count_options` meets its contract. Assumes nothing.
-use Rattle.std.proofs.Common.{◌≡◌, ◌+◌, ◌≤◌, true, false, length, get_or, sym, refl, ◌∙◌, arith, rules}
-use borrow.Author.Tests.{not-true, not-false}
+use Rattle.std.proofs.Common.{◌≡◌, ◌+◌, ◌≤◌, true, false, length, get_or, sym, refl, ◌∙◌, arith}
 use Rattle.options.specs.CodeSet.{marked}
-use Rattle.records.specs.Places.{Goes, bytes_left}
+use Rattle.records.specs.Places.{Goes}
 use Rattle.records.proofs.Places.{stands_in, at_pad, option_in_lem, option_stands, option_at, option_left, option_less, option_size, end_none, end_next}
-use Rattle.tally.proofs.Counting.{Counting, counting_begins, no_pad, no_end, goes_reach, counting_goes, counting_first, counting_further, counting_ends}
+use Rattle.tally.proofs.Counting.{counting_begins, no_pad, no_end, goes_reach, counting_goes, counting_first, counting_further, counting_ends}
 use Rattle.tally.proofs.count_options.Goals as goal
 
 pub loop-n-init : goal.loop-n-init

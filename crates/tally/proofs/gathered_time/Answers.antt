@@ -1,5 +1,5 @@
 -- `tally::gathered_time` meets its contract. Assumes nothing.
-use Rattle.std.proofs.Common.{List, take, sym, ap, ◌∙◌, length-take-le, rules}
+use Rattle.std.proofs.Common.{take, sym, ap, ◌∙◌, length-take-le}
 use Rattle.options.specs.Kinds.{first32}
 use Rattle.cursor.specs.Cursor.{first_position}
 use Rattle.gather.specs.Joined.{joined_from}

@@ -1,5 +1,4 @@
 -- `tally::is_met` meets its contract. Assumes nothing.
-use Rattle.std.proofs.Common.{rules}
 use Rattle.tally.proofs.is_met.Goals as goal
 
 pub returns : goal.returns

@@ -1,5 +1,5 @@
 -- `tally::joined_time` meets its contract. Assumes nothing.
-use Rattle.std.proofs.Common.{◌≡◌, ℕ, ◌+◌, ◌-◌, List, ◌++◌, length, take, drop, sym, ap, ◌∙◌, ap₂, arith, rules}
+use Rattle.std.proofs.Common.{◌≡◌, ℕ, ◌+◌, ◌-◌, List, ◌++◌, length, take, drop, sym, ap, ◌∙◌, ap₂, arith}
 use Rattle.options.specs.Kinds.{first32}
 use Rattle.cursor.specs.Cursor.{first_position}
 use Rattle.gather.specs.Joined.{joined_from}

@@ -1,5 +1,5 @@
 -- `tally::mark` meets its contract. Assumes nothing.
-use Rattle.std.proofs.Common.{◌%◌, refl, arith, rules}
+use Rattle.std.proofs.Common.{◌%◌, refl, arith}
 use Rattle.codeset.proofs.Words.{one_shl}
 use Rattle.tally.proofs.mark.Goals as goal
 

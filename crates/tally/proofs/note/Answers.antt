@@ -1,5 +1,5 @@
 -- `tally::note` meets its contract. Assumes nothing.
-use Rattle.std.proofs.Common.{arith, rules}
+use Rattle.std.proofs.Common.{arith}
 use Rattle.message.proofs.Callers.{all_bytes}
 use Rattle.tally.specs.Noted.{Lent}
 use Rattle.tally.proofs.Noting.{not_lent, noted_refused, noted_accepted, fields_end}

@@ -1,8 +1,6 @@
 -- `tally::past_pads` meets its contract. Assumes nothing.
 use Rattle.std.proofs.Common.{arith}
-use Rattle.records.specs.Places.{bytes_left}
 use Rattle.records.proofs.Places.{stands_in, at_pad}
-use Rattle.tally.specs.Noted.{Reaches}
 use Rattle.tally.proofs.Counting.{reaches_first, reaches_on}
 use Rattle.tally.proofs.past_pads.Goals as goal
 

@@ -1,5 +1,5 @@
 -- `tally::raise` meets its contract. Assumes nothing.
-use Rattle.std.proofs.Common.{arith, rules}
+use Rattle.std.proofs.Common.{arith}
 use Rattle.tally.proofs.Laws.{raises_one, raises_past}
 use Rattle.tally.proofs.raise.Goals as goal
 

@@ -1,5 +1,5 @@
 -- `tally::time_in` meets its contract. Assumes nothing.
-use Rattle.std.proofs.Common.{◌≡◌, ℕ, ◌+◌, ◌-◌, ◌≤◌, List, length, take, drop, sym, ap, ◌∙◌, arith, rules}
+use Rattle.std.proofs.Common.{◌≡◌, ℕ, ◌+◌, ◌-◌, ◌≤◌, List, length, take, drop, sym, ap, ◌∙◌, arith}
 use mathlib.Core.Option.{some}
 use Rattle.options.specs.Message.{Opt}
 use Rattle.options.specs.Kinds.{first32}

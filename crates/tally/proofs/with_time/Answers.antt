@@ -1,5 +1,4 @@
 -- `tally::with_time` meets its contract. Assumes nothing.
-use Rattle.std.proofs.Common.{rules}
 use Rattle.tally.proofs.Laws.{first_time, further_time}
 use Rattle.tally.proofs.with_time.Goals as goal
 

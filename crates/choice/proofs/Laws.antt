@@ -19,14 +19,12 @@ use Rattle.buffer.specs.Copy.{copied}
 use Rattle.buffer.specs.Written.{laid, Written}
 use Rattle.buffer.proofs.Writing.{laid_length, laid_copied, written_none, written_as, written_more}
 use Rattle.sheet.specs.Steps.{step_of}
-use Rattle.sheet.specs.declared.Step.{Step}
 use Rattle.sheet.specs.declared.Step.TheVariants.{Record}
 use Rattle.groups.specs.Parts.{members_at_value, items_from}
 use Rattle.groups.proofs.Laws as groups
 use Rattle.choice.specs.Parts.{Chose, Item}
 use Rattle.choice.specs.declared.Outcome.{Outcome}
 use Rattle.choice.specs.declared.Outcome.TheVariants.{Laid, Refused}
-use Rattle.choice.specs.declared.Picked.{Picked}
 
 -- ---- An item without a fault, and what follows it
 

@@ -2,14 +2,13 @@
 use mathlib.Core.Path.{◌≡◌, refl, sym, ap, ◌∙◌}
 use mathlib.Core.List.{List, [], ◌∷◌}
 use mathlib.Core.Bool.{Bool, true, false, cond}
-use Prim.Native.Nat.{ℕ, ◌+◌, ◌<◌, ◌≤◌}
+use Prim.Native.Nat.{ℕ, ◌+◌, ◌≤◌}
 use native.Mathlib.Omega.{arith}
 use lib.Dec.{ltb}
 use lib.ListN.{length, take, drop}
 use Rattle.options.specs.Message.{Rec}
-use Rattle.options.specs.SheetWalk.{Walk, records_from, Sheet, sound, faulty, keep, tested, ruled}
+use Rattle.options.specs.SheetWalk.{Walk, records_from, Sheet, sound, faulty, keep, ruled}
 use Rattle.options.specs.Writing.{option_bytes}
-use Rattle.theorems.proofs.View.{clash}
 use Rattle.writing_theorems.proofs.WriterOnly.{option_takes}
 use Rattle.writing_theorems.proofs.SheetView.{rec}
 use Rattle.sheet.specs.Steps.{step_of, walk_by}

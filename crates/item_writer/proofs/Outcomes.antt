@@ -12,7 +12,7 @@ use Rattle.options.specs.Reading.{either}
 use Rattle.options.specs.Answers.{record_bytes, given, unfilled, Filled}
 use Rattle.options.specs.SheetWalk.{records_from, records_left, AllShort, Whole, Sheet, sound, faulty}
 use Rattle.options.specs.Writing.{option_bytes}
-use Rattle.options.specs.Vendor.{items_given, sheet_given, vendor_sheet, vendor_write_value}
+use Rattle.options.specs.Vendor.{sheet_given, vendor_write_value}
 use Rattle.options.specs.Relay.{relay_given, relay_sheet, relay_write_value}
 use Rattle.theorems.proofs.View.{clash}
 use Rattle.writing_theorems.proofs.SheetLaws.{neither, passes, sound_records, sound_uncut}

@@ -2,16 +2,16 @@
 use mathlib.Core.Path.{◌≡◌, refl, sym, ap, ap₂, ◌∙◌, subst}
 use mathlib.Core.List.{List, ◌∷◌}
 use mathlib.Core.Bool.{Bool, true, false, cond}
-use Prim.Native.Nat.{ℕ, ◌+◌, ◌-◌, ◌*◌, ◌<◌, ◌≤◌}
+use Prim.Native.Nat.{ℕ, ◌+◌, ◌-◌, ◌<◌, ◌≤◌}
 use native.Mathlib.Omega.{arith}
-use lib.ListN.{length, get_or, take, drop, length-append}
+use lib.ListN.{length, get_or, drop, length-append}
 use lib.Dec.{ltb}
 use borrow.Author.Tests.{lt-ltb, le-ltb, ltb-true, ltb-false}
 use Rattle.options.specs.Message.{Rec}
-use Rattle.options.specs.SheetWalk.{records_left, Whole}
-use Rattle.options.specs.Writing.{size, option_bytes, fits, pieces_left, Between, piece_size}
+use Rattle.options.specs.SheetWalk.{records_left}
+use Rattle.options.specs.Writing.{size, option_bytes, fits, pieces_left, Between}
 use Rattle.writing_theorems.proofs.SheetSteps.{size_at, record_here, Next, next_left, none_left}
-use Rattle.writing_theorems.proofs.PieceSteps.{no_pieces_left, done_within, Piece, last_of_record, piece_here}
+use Rattle.writing_theorems.proofs.PieceSteps.{no_pieces_left, Piece, last_of_record, piece_here}
 use Rattle.sheet.specs.Judge.{single_to}
 use Rattle.plan.specs.Steps.{sizes, left_over, From, Single}
 use Rattle.plan.specs.Pieces.{size_of, piece_of}

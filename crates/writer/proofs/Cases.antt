@@ -1,11 +1,10 @@
 -- GivesByCase, proved. Assumes nothing.
-use mathlib.Core.Path.{◌≡◌, refl, sym, ap, ◌∙◌, subst}
+use mathlib.Core.Path.{◌≡◌, sym, ap, ◌∙◌}
 use mathlib.Core.List.{List}
 use Prim.Native.Nat.{ℕ}
 use Rattle.options.specs.Writing as options
 use Rattle.theorems.proofs.View.{clash}
-use Rattle.plan.specs.Answer.{answer_of, single_of}
-use Rattle.plan.specs.declared.Choice.{Choice}
+use Rattle.plan.specs.Answer.{single_of}
 use Rattle.plan.specs.declared.Choice.TheVariants.{Plan, Refused}
 use Rattle.writer.specs.Writer.{Gives, GivesByCase}
 

@@ -1,14 +1,13 @@
 -- A field's filling as far as each record is one piece. Assumes nothing.
-use mathlib.Core.Path.{◌≡◌, refl, sym, ap, ap₂, ◌∙◌, subst}
+use mathlib.Core.Path.{◌≡◌, sym, ap, ◌∙◌, subst}
 use mathlib.Core.List.{List}
-use Prim.Native.Nat.{ℕ, ◌+◌, ◌-◌, ◌*◌, ◌/◌, ◌%◌, ◌<◌, ◌≤◌}
+use Prim.Native.Nat.{ℕ, ◌+◌, ◌-◌, ◌<◌, ◌≤◌}
 use native.Mathlib.Omega.{arith}
 use lib.ListN.{length, get_or, take, drop}
 use borrow.Rule.Slice.PartMut.{put_mid, mid_of}
-use Rattle.options.specs.Message.{Rec}
 use Rattle.options.specs.Writing.{fits, pieces_left, Between}
 use Rattle.plan.specs.Steps.{left_over, From, Single}
-use Rattle.plan.proofs.Counting.{Turn, turn, Counting, counted}
+use Rattle.plan.proofs.Counting.{Turn, turn, counted}
 use Rattle.field_writer.specs.Room.{with_option, end_and_zeros}
 use Rattle.writer.specs.Fill.{filled, place_in, done_in, pieces_at, Spot, Left}
 use Rattle.writer.proofs.Filling.{Filling, filling_none, filling_more, lent, handed, closed, place_is, none_done, single_spot, past_single}

@@ -8,7 +8,7 @@ use lib.Dec.{ltb}
 use borrow.Author.Tests.{ltb-false, leb-true}
 use Rattle.options.specs.Message.{Rec}
 use Rattle.options.specs.Kinds.{kinds}
-use Rattle.options.specs.SheetWalk.{records_left, Sheet, sound, faulty}
+use Rattle.options.specs.SheetWalk.{Sheet, sound, faulty}
 use Rattle.options.specs.Writing.{split_all, Wrote, wrote, declined, plan_fits, written, plans, sheet, in_plan_order, after_sheet, writer}
 use Rattle.theorems.proofs.View.{clash}
 use Rattle.writing_theorems.proofs.Demand.{passed, both}

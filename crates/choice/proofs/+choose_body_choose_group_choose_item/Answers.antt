@@ -1,25 +1,21 @@
 -- The cycle of calls {choose_body, choose_item, choose_group}: at each turn what is laid, with what is left of a body, is chosen of all. Assumes nothing.
-use borrow.Author.Rules.{rules}
-use mathlib.Core.Path.{◌≡◌, refl, sym, ap, ◌∙◌}
+use mathlib.Core.Path.{◌≡◌, sym, ap, ◌∙◌}
 use mathlib.Core.List.{List}
 use mathlib.Core.Bool.{true, false}
-use Prim.Native.Nat.{ℕ, ◌+◌, ◌-◌, ◌<◌, ◌≤◌}
+use Prim.Native.Nat.{ℕ, ◌+◌, ◌-◌, ◌≤◌}
 use native.Mathlib.Omega.{arith}
 use lib.ListN.{length, get_or, take, drop}
 use lib.Seq.{length-take-le}
 use Rattle.options.specs.SheetWalk.{Walk, all_read, records_from}
-use Rattle.options.specs.Grouped.{none, group_of, members, body, fault_of, reached}
-use Rattle.sheet.specs.Steps.{step_of}
+use Rattle.options.specs.Grouped.{none, members, body, fault_of, reached}
 use Rattle.sheet.specs.declared.Step.TheVariants.{Record}
 use Rattle.sheet.specs.declared.Step.TheVariants as step
 use Rattle.sheet.proofs.Steps as steps
 use Rattle.groups.specs.declared.Checked.TheVariants.{Passed}
-use Rattle.groups.specs.declared.Checked.TheVariants as checked
 use Rattle.groups.proofs.Laws.{pass, body_none, body_some, item_room, is_wrong, group_short, members_found, verdict_of_lem}
 use Rattle.choice.specs.Parts.{Item}
-use Rattle.choice.specs.declared.Outcome.TheVariants.{Laid, Refused}
-use Rattle.choice.specs.declared.Picked.TheVariants.{End, Next, Bad}
-use Rattle.choice.proofs.Laws.{Choosing, choosing_begins, choosing_on, choosing_copied, choosing_ends, choosing_stops, chose_as, name_there, group_entered, group_passed_by, group_laid, group_bad, bad_tag}
+use Rattle.choice.specs.declared.Outcome.TheVariants.{Laid}
+use Rattle.choice.proofs.Laws.{choosing_begins, choosing_on, choosing_copied, choosing_ends, choosing_stops, chose_as, name_there, group_entered, group_passed_by, group_laid, group_bad, bad_tag}
 use Rattle.choice.proofs.+choose_body_choose_group_choose_item.Goals as goal
 
 pub choose_body-returns-then-depth-eq0 : goal.choose_body-returns-then-depth-eq0

@@ -1,5 +1,5 @@
 -- `choice::choose` meets its contract. Assumes nothing.
-use mathlib.Core.Path.{◌≡◌, sym, subst}
+use mathlib.Core.Path.{◌≡◌, sym}
 use mathlib.Core.List.{List}
 use Prim.Native.Nat.{ℕ, ◌≤◌}
 use native.Mathlib.Omega.{arith}
@@ -10,10 +10,8 @@ use Rattle.options.specs.Grouped.{none, group_of, body, choice}
 use Rattle.filled.proofs.Answers.{fills_unfilled}
 use Rattle.groups.proofs.Files.{outer}
 use Rattle.choice.specs.Parts.{Chose}
-use Rattle.choice.specs.declared.Outcome.{Outcome}
 use Rattle.choice.specs.declared.Outcome.TheVariants.{Laid, Refused}
 use Rattle.choice.proofs.Files.{choice_long, choice_none, choice_bad, choice_behind, choice_given}
-use borrow.Author.Rules.{rules}
 use Rattle.choice.proofs.choose.Goals as goal
 
 pub returns-then-f-gt4100 : goal.returns-then-f-gt4100

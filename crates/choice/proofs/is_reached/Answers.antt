@@ -1,13 +1,10 @@
 -- `choice::is_reached` meets its contract. Assumes nothing.
-use borrow.Author.Rules.{rules}
 use mathlib.Core.Path.{◌≡◌, refl, sym, ◌∙◌}
-use Prim.Native.Nat.{◌-◌, ◌≤◌}
 use native.Mathlib.Omega.{arith}
 use borrow.Author.Tests.{eq-eqb, ne_eqb}
 use mathlib.Core.Bool.{true, false}
 use lib.Dec.{eqb}
-use lib.ListN.{length, get_or, drop}
-use Rattle.options.specs.Reading.{same}
+use lib.ListN.{get_or}
 use Rattle.choice.proofs.Names.{reached_empty, reached_not, reached_same, same_step, same_end}
 use Rattle.choice.proofs.is_reached.Goals as goal
 

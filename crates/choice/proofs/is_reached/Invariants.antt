@@ -1,14 +1,8 @@
 -- `choice::is_reached` meets its contract. Assumes nothing.
-use borrow.Author.Rules.{rules}
-use mathlib.Core.Path.{◌≡◌, refl, sym, ◌∙◌}
+use mathlib.Core.Path.{◌≡◌}
 use Prim.Native.Nat.{◌-◌, ◌≤◌}
-use native.Mathlib.Omega.{arith}
-use borrow.Author.Tests.{eq-eqb, ne_eqb}
-use mathlib.Core.Bool.{true, false}
-use lib.Dec.{eqb}
-use lib.ListN.{length, get_or, drop}
+use lib.ListN.{length, drop}
 use Rattle.options.specs.Reading.{same}
-use Rattle.choice.proofs.Names.{reached_empty, reached_not, reached_same, same_step, same_end}
 use Rattle.choice.proofs.is_reached.Given as goal
 
 abbrev pub invariant-loop-i : goal.invariant-loop-i

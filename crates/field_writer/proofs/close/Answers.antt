@@ -1,5 +1,4 @@
 -- `field_writer::close` meets its contract. Assumes nothing.
-use borrow.Author.Rules.{rules}
 use native.Mathlib.Omega.{arith}
 use mathlib.Core.Path.{◌∙◌}
 use mathlib.Core.List.{List}
@@ -16,9 +15,6 @@ slice_bounds-clear-count c = simp length-set (omega (arith, c.if-room-eq0.false)
 
 pub slice_bounds-clear-start : goal.slice_bounds-clear-start
 slice_bounds-clear-start c = simp length-set (omega (arith, c.if-room-eq0.false))
-
-pub shape_of-room : goal.shape_of-room
-shape_of-room c = c.room-1.given.1 ∙ simp length-set
 
 pub returns : goal.returns
 returns c = let room : List ℕ = c.args.room.now in

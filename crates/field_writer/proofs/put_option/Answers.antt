@@ -1,5 +1,4 @@
 -- `field_writer::put_option` meets its contract. Assumes nothing.
-use borrow.Author.Rules.{rules}
 use native.Mathlib.Omega.{arith}
 use mathlib.Core.Path.{sym, ◌∙◌}
 use lib.ListN.{length-set}
@@ -20,9 +19,6 @@ slice_bounds-copy-count c = simp length-set (omega arith)
 
 pub slice_bounds-copy-start : goal.slice_bounds-copy-start
 slice_bounds-copy-start c = simp length-set (omega arith)
-
-pub shape_of-room : goal.shape_of-room
-shape_of-room c = c.room-1.given.1 ∙ simp length-set
 
 pub returns : goal.returns
 returns c = let room = c.args.room.now in

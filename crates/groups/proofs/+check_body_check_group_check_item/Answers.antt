@@ -1,11 +1,9 @@
 -- The cycle of calls {check_body, check_item, check_group}: at each turn the items left of a body have the fault of all. Assumes nothing.
-use mathlib.Core.Path.{◌≡◌, refl, sym, ap, ◌∙◌}
-use mathlib.Core.List.{List}
-use Prim.Native.Nat.{ℕ, ◌+◌, ◌-◌, ◌<◌}
+use mathlib.Core.Path.{refl, sym, ap, ◌∙◌}
+use Prim.Native.Nat.{◌+◌, ◌-◌}
 use native.Mathlib.Omega.{arith}
-use lib.ListN.{length, drop, get_or}
+use lib.ListN.{drop}
 use lib.Seq.{length-take-le}
-use borrow.Author.Rules.{rules}
 use Rattle.options.specs.Grouped.{Items, none, body, fault_of}
 use Rattle.groups.specs.Check.{checked_of}
 use Rattle.groups.specs.declared.Item.TheVariants.{End, Next, Bad}

@@ -6,7 +6,6 @@ use lib.Seq.{length-take-le}
 use Rattle.options.specs.Grouped.{fault_of}
 use Rattle.groups.specs.Check.{checked_of}
 use Rattle.groups.proofs.Files.{outer, behind_some, behind_none, check_long, check_none, check_after, check_refused}
-use borrow.Author.Rules.{rules}
 use Rattle.groups.proofs.check.Goals as goal
 
 pub returns-then-f-gt4100 : goal.returns-then-f-gt4100

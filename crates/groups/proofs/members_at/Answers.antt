@@ -3,7 +3,6 @@ use mathlib.Core.Path.{sym, ap, ◌∙◌}
 use Prim.Native.Nat.{ℕ, ◌+◌}
 use native.Mathlib.Omega.{arith}
 use Rattle.groups.proofs.Laws.{no_members, some_members}
-use borrow.Author.Rules.{rules}
 use Rattle.groups.proofs.members_at.Goals as goal
 
 pub returns-then-s-lt4 : goal.returns-then-s-lt4

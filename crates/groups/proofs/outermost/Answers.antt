@@ -1,11 +1,8 @@
 -- `groups::outermost` meets its contract. Assumes nothing.
-use mathlib.Core.Path.{◌≡◌, sym, ◌∙◌}
+use mathlib.Core.Path.{sym}
 use native.Mathlib.Omega.{arith}
-use Rattle.options.specs.SheetWalk.{records_from}
-use Rattle.sheet.specs.Steps.{step_of}
-use Rattle.sheet.specs.declared.Step.TheVariants.{Record, Cut, End}
+use Rattle.sheet.specs.declared.Step.TheVariants.{Cut, End}
 use Rattle.groups.proofs.Files.{outer_by, outer_room, outer_group, outer_other}
-use borrow.Author.Rules.{rules}
 use Rattle.groups.proofs.outermost.Goals as goal
 
 pub overflow_add-result : goal.overflow_add-result

@@ -1,15 +1,9 @@
 -- `groups::past_records` meets its contract: at each turn what is left of the members gives the same place. Assumes nothing.
-use borrow.Author.Rules.{rules}
-use mathlib.Core.Path.{◌≡◌, refl, sym, ◌∙◌}
-use mathlib.Core.Logic.{inl, inr}
+use mathlib.Core.Path.{◌≡◌}
 use Prim.Native.Nat.{◌-◌}
-use native.Mathlib.Omega.{arith}
 use lib.ListN.{length, drop}
 use Rattle.options.specs.SheetWalk.{records_from}
-use Rattle.sheet.specs.Steps.{step_of}
-use Rattle.sheet.specs.declared.Step.TheVariants.{Record, Cut, End}
 use Rattle.groups.specs.Parts.{past_records_value}
-use Rattle.groups.proofs.Laws.{item_room, past_by, past_stop, past_on}
 use Rattle.groups.proofs.past_records.Given as goal
 
 abbrev pub invariant-loop-tag : goal.invariant-loop-tag

@@ -1,9 +1,6 @@
 -- `item_writer::broken_rule` meets its contract. Assumes nothing.
-use borrow.Author.Rules.{rules}
-use mathlib.Core.Path.{◌≡◌, refl, sym, ◌∙◌}
-use mathlib.Core.Bool.{Bool, true, false}
+use mathlib.Core.Path.{refl, sym, ◌∙◌}
 use borrow.Author.Tests.{lt-ltb, le-ltb}
-use Rattle.item_writer.specs.Judge.{wrong_tag_of}
 use Rattle.item_writer.proofs.broken_rule.Goals as goal
 
 pub returns-then-wrong_tag : goal.returns-then-wrong_tag

@@ -1,11 +1,7 @@
 -- `item_writer::put_items` meets its contract: at each turn what is laid, with what is left of the sheet, is the whole. Assumes nothing.
-use borrow.Author.Rules.{rules}
-use native.Mathlib.Omega.{arith}
-use mathlib.Core.Path.{◌≡◌}
-use mathlib.Core.List.{List}
-use Prim.Native.Nat.{ℕ, ◌+◌, ◌-◌, ◌≤◌, ◌<◌}
-use lib.ListN.{length, get_or}
-use Rattle.item_writer.proofs.Putting.{laid_option, Putting, putting_begins, putting_ends, head_in, part, within, part_length, part_brief, item_room, putting_on}
+use Prim.Native.Nat.{◌-◌}
+use lib.ListN.{length}
+use Rattle.item_writer.proofs.Putting.{Putting}
 use Rattle.item_writer.proofs.put_items.Given as goal
 
 abbrev pub invariant-loop-at : goal.invariant-loop-at

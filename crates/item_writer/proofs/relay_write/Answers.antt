@@ -1,7 +1,6 @@
 -- `item_writer::relay_write` meets its contract. Assumes nothing.
-use borrow.Author.Rules.{rules}
 use native.Mathlib.Omega.{arith}
-use mathlib.Core.Path.{◌≡◌, sym, ◌∙◌}
+use mathlib.Core.Path.{sym, ◌∙◌}
 use mathlib.Core.Bool.{false}
 use Rattle.item_writer.proofs.Outcomes.{Sound, is_sound, relay_8, relay_16, relay_given_lem, fills_record, fills_11, room_in, fills_given}
 use Rattle.item_writer.proofs.relay_write.Goals as goal

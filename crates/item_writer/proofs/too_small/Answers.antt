@@ -1,5 +1,5 @@
 -- `item_writer::too_small` meets its contract. Assumes nothing.
-use mathlib.Core.Path.{◌≡◌, refl}
+use mathlib.Core.Path.{refl}
 use borrow.Author.Tests.{lt-ltb, le-ltb}
 use Rattle.item_writer.proofs.too_small.Goals as goal
 

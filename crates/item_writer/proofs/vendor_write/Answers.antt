@@ -1,7 +1,6 @@
 -- `item_writer::vendor_write` meets its contract. Assumes nothing.
-use borrow.Author.Rules.{rules}
 use native.Mathlib.Omega.{arith}
-use mathlib.Core.Path.{◌≡◌, sym, ◌∙◌}
+use mathlib.Core.Path.{sym, ◌∙◌}
 use mathlib.Core.Bool.{true}
 use Rattle.item_writer.proofs.Outcomes.{Sound, is_sound, vendor_16, vendor_given, fills_record, fills_11, room_in, fills_given}
 use Rattle.item_writer.proofs.vendor_write.Goals as goal

@@ -6,7 +6,6 @@ use Rattle.sheet.proofs.Verdicts.{Accepted, accepted}
 use Rattle.plan.specs.Steps.{sizes}
 use Rattle.plan.proofs.Counting.{begins_single}
 use Rattle.plan.proofs.Trying.{too_short, too_long, no_such, sheet_long, faulty_sheet, sound_sheet}
-use borrow.Author.Rules.{rules}
 use Rattle.plan.proofs.choose.Goals as goal
 
 pub returns-then-len-lt240 : goal.returns-then-len-lt240

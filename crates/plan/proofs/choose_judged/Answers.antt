@@ -8,7 +8,6 @@ use Rattle.options.specs.Writing.{plan_fits, pieces_left}
 use Rattle.plan.specs.Steps.{sizes}
 use Rattle.plan.proofs.Sizes.{fits_0}
 use Rattle.plan.proofs.Trying.{by_plan_0, by_no_plan, by_plan}
-use borrow.Author.Rules.{rules}
 use Rattle.plan.proofs.choose_judged.Goals as goal
 
 pub returns-then-total-len : goal.returns-then-total-len

@@ -4,7 +4,6 @@ use Prim.Native.Nat.{ℕ}
 use native.Mathlib.Omega.{arith}
 use Rattle.plan.specs.Pieces.{piece_of}
 use Rattle.plan.proofs.Counting.{of_last, of_more}
-use borrow.Author.Rules.{rules}
 use Rattle.plan.proofs.next_piece.Goals as goal
 
 pub returns-then-size-done : goal.returns-then-size-done

@@ -7,7 +7,6 @@ use Rattle.options.specs.Message.{Rec}
 use Rattle.options.specs.Writing.{pieces_left}
 use Rattle.plan.specs.Steps.{sizes, left_over, first_fit}
 use Rattle.plan.proofs.Trying.{none_small, sname_only, with_file, file_only, with_both}
-use borrow.Author.Rules.{rules}
 use Rattle.plan.proofs.overload_plan.Goals as goal
 
 pub returns-then-permission-eq0 : goal.returns-then-permission-eq0

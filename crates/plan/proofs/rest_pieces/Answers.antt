@@ -7,7 +7,7 @@ use lib.ListN.{length}
 use Rattle.options.specs.Writing.{fits, pieces_left}
 use Rattle.writing_theorems.proofs.PieceSteps.{Piece}
 use Rattle.plan.specs.Steps.{sizes, left_over, From}
-use Rattle.plan.proofs.Counting.{head_at, piece_at, at_end_lem, no_room, Counting, counting_none, counting_more, counted}
+use Rattle.plan.proofs.Counting.{head_at, piece_at, at_end_lem, no_room, counting_none, counting_more, counted}
 use borrow.Author.Rules.{rules}
 use Rattle.plan.proofs.rest_pieces.Goals as goal
 use Rattle.plan.proofs.rest_pieces.Goals.{else-loop-place-test, then-loop-place-test+then-left-size}

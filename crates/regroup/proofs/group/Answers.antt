@@ -1,5 +1,5 @@
 -- `regroup::group` meets its contract. Assumes nothing.
-use mathlib.Core.Path.{◌≡◌, sym, ◌∙◌}
+use mathlib.Core.Path.{◌≡◌}
 use lib.ListN.{length}
 use Rattle.options.specs.Answers.{passed, refused_with}
 use Rattle.options.specs.SheetWalk.{records_from}
@@ -9,7 +9,6 @@ use Rattle.groups.specs.declared.Checked.TheVariants.{Passed, Refused}
 use Rattle.groups.proofs.Laws.{verdict_of_lem}
 use Rattle.regroup.specs.Parts.{movable}
 use Rattle.regroup.proofs.Laws.{move_long, move_refused, move_passed}
-use borrow.Author.Rules.{rules}
 use Rattle.regroup.proofs.group.Goals as goal
 
 pub returns-then-s-gt4096 : goal.returns-then-s-gt4096

@@ -10,7 +10,6 @@ use Rattle.buffer.specs.Written.{laid}
 use Rattle.buffer.proofs.Writing.{laid_laid, laid_copied, written_front}
 use Rattle.filled.proofs.Answers.{fills_small, fills_enough}
 use Rattle.regroup.proofs.Laws.{laid_four}
-use borrow.Author.Rules.{rules}
 use Rattle.regroup.proofs.put_group.Goals as goal
 
 pub returns-then-room-n : goal.returns-then-room-n
@@ -24,9 +23,6 @@ bounds-out-2 c = simp length-set (omega arith)
 
 pub bounds-out-3 : goal.bounds-out-3
 bounds-out-3 c = simp length-set (omega arith)
-
-pub shape_of-out : goal.shape_of-out
-shape_of-out c = c.out-1.given.1 ∙ simp length-set
 
 pub returns : goal.returns
 returns c = let room = c.if-room-n.false in

@@ -1,11 +1,7 @@
 -- `regroup::sheet_fault` meets its contract: the records that are passed leave the verdict as it is. Assumes nothing.
-use borrow.Author.Rules.{rules}
-use mathlib.Core.Path.{◌≡◌, sym, ap, ◌∙◌}
+use mathlib.Core.Path.{sym, ap, ◌∙◌}
 use native.Mathlib.Omega.{arith}
-use lib.ListN.{drop}
-use Rattle.options.specs.SheetWalk.{records_from}
-use Rattle.sheet.specs.Steps.{step_of}
-use Rattle.sheet.specs.declared.Step.TheVariants.{Record, Cut, End}
+use Rattle.sheet.specs.declared.Step.TheVariants.{Cut, End}
 use Rattle.groups.specs.Check.{checked_of}
 use Rattle.regroup.specs.Parts.{movable}
 use Rattle.regroup.proofs.Laws.{movable_by, moved_stop, past_moved}

@@ -13,7 +13,6 @@ use Rattle.groups.specs.declared.Checked.TheVariants.{Passed, Refused}
 use Rattle.groups.proofs.Laws.{verdict_of_lem}
 use Rattle.regroup.specs.Parts.{plain_in}
 use Rattle.regroup.proofs.Laws.{whole_file, back_refused, back_none, back_given}
-use borrow.Author.Rules.{rules}
 use Rattle.regroup.proofs.ungroup.Goals as goal
 
 pub slice_bounds-give-count : goal.slice_bounds-give-count

@@ -1,5 +1,4 @@
 -- `sheet::high_record` meets its contract: of the tags from 77 on 82 and 121 have a row. Assumes nothing.
-use borrow.Author.Rules.{rules}
 use borrow.Author.Tests.{ne_eqb}
 use native.Mathlib.Omega.{arith}
 use mathlib.Core.Path.{◌≡◌, sym, ◌∙◌}

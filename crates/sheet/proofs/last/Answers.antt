@@ -1,5 +1,4 @@
 -- `sheet::last` meets its contract. Assumes nothing.
-use borrow.Author.Rules.{rules}
 use borrow.Author.Tests.{eq-eqb, ne_eqb}
 use Rattle.sheet.proofs.last.Goals as goal
 

@@ -1,5 +1,4 @@
 -- `sheet::long_fault` meets its contract. Assumes nothing.
-use borrow.Author.Rules.{rules}
 use Rattle.sheet.proofs.long_fault.Goals as goal
 
 pub returns-then-no_tag : goal.returns-then-no_tag

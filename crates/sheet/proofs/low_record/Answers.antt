@@ -1,6 +1,4 @@
 -- `sheet::low_record` meets its contract. Assumes nothing.
-use borrow.Author.Rules.{rules}
-use native.Mathlib.Omega.{arith}
 use mathlib.Core.Path.{ap}
 use Rattle.sheet.specs.declared.Tags.{Tags}
 use Rattle.sheet.proofs.Judging.{part_is}

@@ -1,5 +1,4 @@
 -- `sheet::met` meets its contract: a tag was there where marking it changes nothing. Assumes nothing.
-use borrow.Author.Rules.{rules}
 use native.Mathlib.Omega.{arith}
 use mathlib.Core.Path.{refl}
 use Prim.Native.Nat.{◌%◌}

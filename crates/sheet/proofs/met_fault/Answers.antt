@@ -1,5 +1,4 @@
 -- `sheet::met_fault` meets its contract. Assumes nothing.
-use borrow.Author.Rules.{rules}
 use Rattle.sheet.proofs.met_fault.Goals as goal
 
 pub returns-then-no_tag : goal.returns-then-no_tag

@@ -1,6 +1,5 @@
 -- `sheet::tags_after` meets its contract: a tag above 3 is neither 3 nor 1. Assumes nothing.
 use native.Mathlib.Omega.{arith}
-use borrow.Author.Rules.{rules}
 use borrow.Author.Tests.{ne_eqb}
 use Rattle.sheet.proofs.tags_after.Goals as goal
 

@@ -1,5 +1,5 @@
 -- `writer::fill` meets its contract. Assumes nothing.
-use mathlib.Core.Path.{◌≡◌, refl, ◌∙◌}
+use mathlib.Core.Path.{◌≡◌, refl}
 use mathlib.Core.List.{List}
 use Prim.Native.Nat.{ℕ, ◌+◌, ◌-◌, ◌^◌, ◌<◌, ◌≤◌}
 use native.Mathlib.Omega.{arith}
@@ -7,7 +7,7 @@ use lib.ListN.{length, get_or}
 use Rattle.options.specs.Writing.{fits, pieces_left}
 use Rattle.plan.proofs.Counting.{Turn, no_room}
 use Rattle.writer.proofs.Filling.{part_is}
-use Rattle.writer.proofs.Quick.{Quick, quick_none, quick_turn, quick_more, quick_closed, quick_handed}
+use Rattle.writer.proofs.Quick.{quick_none, quick_turn, quick_more, quick_closed, quick_handed}
 use borrow.Author.Rules.{rules}
 use Rattle.writer.proofs.fill.Goals as goal
 
@@ -31,9 +31,6 @@ slice_bounds-close-count c = (let within₁ : c.loop-at.end ≤ length c.loop-at
 
 pub slice_bounds-close-start : goal.slice_bounds-close-start
 slice_bounds-close-start c = (let within₁ : c.loop-at.end ≤ length c.loop-at.field = omega (arith, c.loop-at.invariant.filling.room, c.loop-at.invariant.filling.same) in within₁)
-
-pub shape_of-field-then-field-next : goal.shape_of-field-then-field-next
-shape_of-field-then-field-next c = c.field-1.given.1 ∙ c.loop-at.invariant.filling.same
 
 pub returns-then-field-next : goal.returns-then-field-next
 returns-then-field-next c = let s : List ℕ = c.args.s.now in
@@ -80,9 +77,6 @@ slice_bounds-fill_pieces-start c = (let within₁ : c.loop-at.end ≤ length c.l
 pub fill_pieces-requires : goal.fill_pieces-requires
 fill_pieces-requires c = let spot = c.loop-at.invariant.spot_is in
     (spot.few, spot.between)
-
-pub shape_of-field : goal.shape_of-field
-shape_of-field c = c.field-2-1.given.1 ∙ c.loop-at.invariant.filling.same
 
 pub returns : goal.returns
 returns c = quick_handed _ (c.args.s.now) c.args.single c.args.spot c.loop-at.field c.loop-at.at c.loop-at.end c.loop-at.invariant c.loop-at-test.false c.fill_pieces.new.field c.fill_pieces.result c.fill_pieces.ensures.0 c.fill_pieces.ensures.1 c.fill_pieces.ensures.2

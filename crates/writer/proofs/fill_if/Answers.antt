@@ -1,6 +1,5 @@
 -- `writer::fill_if` meets its contract. Assumes nothing.
 use mathlib.Core.Path.{refl}
-use borrow.Author.Rules.{rules}
 use Rattle.writer.proofs.fill_if.Goals as goal
 
 pub returns-then-used : goal.returns-then-used

@@ -7,7 +7,6 @@ use Rattle.options.specs.Message.{Rec}
 use Rattle.writer.specs.Fill.{pieces_at}
 use Rattle.writer.proofs.First.{alone, after, from52}
 use Rattle.writer.proofs.Parts.{room_52}
-use borrow.Author.Rules.{rules}
 use Rattle.writer.proofs.fill_options.Goals as goal
 
 pub returns-then-plan-eq0 : goal.returns-then-plan-eq0

@@ -1,5 +1,5 @@
 -- `writer::fill_pieces` meets its contract. Assumes nothing.
-use mathlib.Core.Path.{◌≡◌, refl, sym, ap, ap₂, ◌∙◌, subst}
+use mathlib.Core.Path.{◌≡◌, sym, subst}
 use mathlib.Core.List.{List}
 use Prim.Native.Nat.{ℕ, ◌+◌, ◌-◌, ◌*◌, ◌/◌, ◌^◌, ◌<◌, ◌≤◌}
 use native.Mathlib.Omega.{arith}
@@ -11,7 +11,7 @@ use Rattle.plan.specs.Steps.{left_over, From}
 use Rattle.plan.specs.Pieces.{size_of}
 use Rattle.plan.proofs.Counting.{head_at, piece_at, at_end_lem, no_room, counted}
 use Rattle.writer.specs.Fill.{place_in, done_in}
-use Rattle.writer.proofs.Filling.{Filling, filling_none, filling_more, closed, place_back, done_back, done_few, within_sheet, still_255, part_is}
+use Rattle.writer.proofs.Filling.{filling_none, filling_more, closed, place_back, done_back, done_few, within_sheet, still_255, part_is}
 use borrow.Author.Rules.{rules}
 use Rattle.writer.proofs.fill_pieces.Goals as goal
 use Rattle.writer.proofs.fill_pieces.Goals.{else-loop-at-test, then-loop-at-test+then-field-next}
@@ -79,9 +79,6 @@ overflow_mul-result c = omega (arith, done_few _ _ _ c.loop-at.invariant.0.count
 
 pub overflow_add-result : goal.overflow_add-result
 overflow_add-result c = omega (arith, (let few₁ : c.loop-at.at < 65536 = omega (arith, within_sheet _ _ _ c.loop-at.invariant.0.counts.between, c.requires.0) in few₁), done_few _ _ _ c.loop-at.invariant.0.counts.between)
-
-pub shape_of-field : goal.shape_of-field
-shape_of-field c = c.field-2-1.given.1 ∙ c.loop-at.invariant.0.same
 
 pub returns : goal.returns
 returns c = let s : List ℕ = c.args.s.now in

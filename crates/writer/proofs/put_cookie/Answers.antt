@@ -1,6 +1,5 @@
 -- `writer::put_cookie` meets its contract. Assumes nothing.
 use Rattle.writer.proofs.Parts.{four}
-use borrow.Author.Rules.{rules}
 use Rattle.writer.proofs.put_cookie.Goals as goal
 
 pub returns : goal.returns

@@ -3,7 +3,6 @@ use mathlib.Core.Path.{refl, ap}
 use Rattle.options.specs.Writing.{writer}
 use Rattle.plan.specs.declared.Choice.TheVariants.{Plan}
 use Rattle.writer.proofs.Used.{keeps, Used, used}
-use borrow.Author.Rules.{rules}
 use Rattle.writer.proofs.write.Goals as goal
 
 pub write_plan-requires : goal.write_plan-requires

@@ -11,7 +11,6 @@ use Rattle.options.specs.Writing.{with52, fits_if, past_options}
 use Rattle.writer.specs.Fill.{filled, pieces_at}
 use Rattle.writer.proofs.Plans.{plan_written}
 use Rattle.writer.proofs.Parts.{is4, lent_options, lent_file, lent_sname, file_long, sname_long, some_room, field_eq, join5_eq, dropped}
-use borrow.Author.Rules.{rules}
 use Rattle.writer.proofs.write_plan.Goals as goal
 
 pub fill_if-b-requires : goal.fill_if-b-requires

@@ -1,10 +1,10 @@
 -- The code's cases are the paper's; and FOR CALLERS: what a call gives, by the test that it makes. Assumes nothing.
-use mathlib.Core.Path.{◌≡◌, refl, sym, ap, ap₂, ◌∙◌}
+use mathlib.Core.Path.{◌≡◌, sym, ap, ap₂, ◌∙◌}
 use mathlib.Core.List.{List, ◌++◌}
 use Prim.Native.Nat.{ℕ, ◌≤◌, ◌<◌}
 use lib.ListN.{length, drop}
 use borrow.Author.Tests.{lt-ltb, le-ltb}
-use Rattle.options.specs.Answers.{given, declined, Filled, unfilled, filled_with}
+use Rattle.options.specs.Answers.{given, Filled, unfilled, filled_with}
 use Rattle.options.specs.Answers as answers
 use Rattle.filled.specs.declared.Given.{Given}
 use Rattle.filled.specs.declared.Given.TheVariants.{Bytes, Refused}

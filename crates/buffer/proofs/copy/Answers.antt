@@ -1,5 +1,4 @@
 -- `buffer::copy` meets its contract. Assumes nothing.
-use borrow.Author.Rules.{rules}
 use mathlib.Core.Path.{sym, ◌∙◌}
 use native.Mathlib.Omega.{arith}
 use Rattle.buffer.proofs.Copied.{copied_fits, copied_not}

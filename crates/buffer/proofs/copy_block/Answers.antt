@@ -4,7 +4,6 @@ use mathlib.Core.List.{List}
 use Prim.Native.Nat.{ℕ}
 use Rattle.buffer.specs.Copy.{whole}
 use Rattle.buffer.proofs.Laws.{whole_full, read_back}
-use borrow.Author.Rules.{rules}
 use Rattle.buffer.proofs.copy_block.Goals as goal
 
 pub returns : goal.returns

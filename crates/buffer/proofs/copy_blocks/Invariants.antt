@@ -1,12 +1,7 @@
 -- `buffer::copy_blocks` meets its contract. Assumes nothing.
-use borrow.Author.Rules.{rules}
-use mathlib.Core.Path.{◌≡◌, refl, ap, ◌∙◌}
-use mathlib.Core.List.{List}
-use Prim.Native.Nat.{ℕ, ◌+◌, ◌-◌, ◌≤◌, ◌<◌, min}
-use native.Mathlib.Omega.{arith}
+use mathlib.Core.Path.{◌≡◌}
+use Prim.Native.Nat.{◌+◌, ◌-◌, ◌≤◌}
 use lib.ListN.{length, take, drop}
-use borrow.Rule.Slice.PartMut.{put_mid}
-use Rattle.buffer.proofs.Laws.{front, front_part, front_before, front_after, front_all}
 use Rattle.buffer.proofs.copy_blocks.Given as goal
 
 abbrev pub invariant-loop-at : goal.invariant-loop-at

@@ -1,9 +1,8 @@
 -- `buffer::copy_bytes` meets its contract. Assumes nothing.
-use mathlib.Core.Path.{◌≡◌, refl, ◌∙◌}
-use Prim.Native.Nat.{◌-◌, ◌≤◌}
+use mathlib.Core.Path.{refl, ◌∙◌}
 use native.Mathlib.Omega.{arith}
-use lib.ListN.{length, length-set}
-use Rattle.buffer.proofs.Laws.{front, front_byte, front_all}
+use lib.ListN.{length-set}
+use Rattle.buffer.proofs.Laws.{front_byte, front_all}
 use Rattle.buffer.proofs.copy_bytes.Goals as goal
 
 pub loop-i-init : goal.loop-i-init

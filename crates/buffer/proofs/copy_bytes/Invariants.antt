@@ -1,9 +1,8 @@
 -- `buffer::copy_bytes` meets its contract. Assumes nothing.
-use mathlib.Core.Path.{◌≡◌, refl, ◌∙◌}
+use mathlib.Core.Path.{◌≡◌}
 use Prim.Native.Nat.{◌-◌, ◌≤◌}
-use native.Mathlib.Omega.{arith}
-use lib.ListN.{length, length-set}
-use Rattle.buffer.proofs.Laws.{front, front_byte, front_all}
+use lib.ListN.{length}
+use Rattle.buffer.proofs.Laws.{front}
 use Rattle.buffer.proofs.copy_bytes.Given as goal
 
 abbrev pub invariant-loop-i : goal.invariant-loop-i

@@ -5,7 +5,6 @@ use Prim.Native.Nat.{ℕ, ◌-◌}
 use native.Mathlib.Omega.{arith}
 use lib.ListN.{length, take, drop}
 use Rattle.buffer.proofs.Laws.{front, front_part, front_before, front_after, front_all}
-use borrow.Author.Rules.{rules}
 use Rattle.buffer.proofs.copy_ends.Goals as goal
 
 pub returns : goal.returns

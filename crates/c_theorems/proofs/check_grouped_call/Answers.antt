@@ -1,5 +1,4 @@
 -- `c_theorems::check_grouped_call` meets its contract. Assumes nothing.
-use borrow.Author.Rules.{rules}
 use Rattle.message.proofs.Callers.{all_bytes}
 use Rattle.c_theorems.proofs.Calls.{check_refused}
 use Rattle.c_theorems.proofs.check_grouped_call.Goals as goal

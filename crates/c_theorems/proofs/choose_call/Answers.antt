@@ -1,5 +1,4 @@
 -- `c_theorems::choose_call` meets its contract. Assumes nothing.
-use borrow.Author.Rules.{rules}
 use Rattle.message.proofs.Callers.{all_bytes}
 use Rattle.c_theorems.proofs.Fills.{choose_refused}
 use Rattle.c_theorems.proofs.choose_call.Goals as goal

@@ -1,5 +1,4 @@
 -- `c_theorems::data_call` meets its contract. Assumes nothing.
-use borrow.Author.Rules.{rules}
 use Rattle.c_theorems.proofs.Calls.{data_refused}
 use Rattle.c_theorems.proofs.Shown.{data_for_c}
 use Rattle.c_theorems.proofs.data_call.Goals as goal

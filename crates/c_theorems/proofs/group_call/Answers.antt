@@ -1,5 +1,4 @@
 -- `c_theorems::group_call` meets its contract. Assumes nothing.
-use borrow.Author.Rules.{rules}
 use Rattle.message.proofs.Callers.{all_bytes}
 use Rattle.c_theorems.proofs.Fills.{group_refused}
 use Rattle.c_theorems.proofs.group_call.Goals as goal

@@ -1,5 +1,4 @@
 -- `c_theorems::index_build_call` meets its contract. Assumes nothing.
-use borrow.Author.Rules.{rules}
 use Rattle.c_theorems.proofs.Fills.{build_refused}
 use Rattle.c_theorems.proofs.index_build_call.Goals as goal
 

@@ -1,5 +1,4 @@
 -- `c_theorems::present_call` meets its contract. Assumes nothing.
-use borrow.Author.Rules.{rules}
 use Rattle.c_theorems.proofs.Calls.{present_refused}
 use Rattle.c_theorems.proofs.Shown.{present_for_c}
 use Rattle.message.proofs.Callers.{all_bytes}

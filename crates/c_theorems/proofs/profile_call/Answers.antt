@@ -1,5 +1,4 @@
 -- `c_theorems::profile_call` meets its contract. Assumes nothing.
-use borrow.Author.Rules.{rules}
 use Rattle.c_theorems.proofs.Profiled.{profile_refused, profile_for_c}
 use Rattle.c_theorems.proofs.profile_call.Goals as goal
 

@@ -1,5 +1,4 @@
 -- `c_theorems::records_call` meets its contract. Assumes nothing.
-use borrow.Author.Rules.{rules}
 use Rattle.c_theorems.proofs.Fills.{records_refused}
 use Rattle.c_theorems.proofs.records_call.Goals as goal
 

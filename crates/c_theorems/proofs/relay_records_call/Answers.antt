@@ -1,5 +1,4 @@
 -- `c_theorems::relay_records_call` meets its contract. Assumes nothing.
-use borrow.Author.Rules.{rules}
 use Rattle.c_theorems.proofs.RelayRefused.{relay_records_refused}
 use Rattle.c_theorems.proofs.relay_records_call.Goals as goal
 

@@ -1,5 +1,4 @@
 -- `c_theorems::relay_write_call` meets its contract. Assumes nothing.
-use borrow.Author.Rules.{rules}
 use Rattle.message.proofs.Callers.{all_bytes}
 use Rattle.c_theorems.proofs.RelayRefused.{relay_write_refused}
 use Rattle.c_theorems.proofs.relay_write_call.Goals as goal

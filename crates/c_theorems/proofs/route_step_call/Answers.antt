@@ -1,5 +1,4 @@
 -- `c_theorems::route_step_call` meets its contract. Assumes nothing.
-use borrow.Author.Rules.{rules}
 use Rattle.c_theorems.proofs.Routed.{route_step_for_c}
 use Rattle.c_theorems.proofs.route_step_call.Goals as goal
 

@@ -1,5 +1,4 @@
 -- `c_theorems::routes_ignored_call` meets its contract. Assumes nothing.
-use borrow.Author.Rules.{rules}
 use Rattle.c_theorems.proofs.Routed.{ignored_refused, ignored_for_c}
 use Rattle.c_theorems.proofs.routes_ignored_call.Goals as goal
 

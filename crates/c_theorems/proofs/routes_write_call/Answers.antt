@@ -1,5 +1,4 @@
 -- `c_theorems::routes_write_call` meets its contract. Assumes nothing.
-use borrow.Author.Rules.{rules}
 use Rattle.c_theorems.proofs.Routed.{routes_write_refused}
 use Rattle.c_theorems.proofs.routes_write_call.Goals as goal
 

@@ -1,5 +1,4 @@
 -- `c_theorems::ungroup_call` meets its contract. Assumes nothing.
-use borrow.Author.Rules.{rules}
 use Rattle.message.proofs.Callers.{all_bytes}
 use Rattle.c_theorems.proofs.Fills.{ungroup_refused}
 use Rattle.c_theorems.proofs.ungroup_call.Goals as goal

@@ -1,5 +1,4 @@
 -- `c_theorems::vendor_records_call` meets its contract. Assumes nothing.
-use borrow.Author.Rules.{rules}
 use Rattle.c_theorems.proofs.Fills.{vendor_records_refused}
 use Rattle.c_theorems.proofs.vendor_records_call.Goals as goal
 

@@ -1,5 +1,4 @@
 -- `c_theorems::vendor_write_call` meets its contract. Assumes nothing.
-use borrow.Author.Rules.{rules}
 use Rattle.message.proofs.Callers.{all_bytes}
 use Rattle.c_theorems.proofs.Fills.{vendor_write_refused}
 use Rattle.c_theorems.proofs.vendor_write_call.Goals as goal

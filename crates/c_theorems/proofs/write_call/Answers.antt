@@ -1,5 +1,4 @@
 -- `c_theorems::write_call` meets its contract. Assumes nothing.
-use borrow.Author.Rules.{rules}
 use Rattle.c_theorems.proofs.Calls.{write_refused}
 use Rattle.message.proofs.Callers.{all_bytes}
 use Rattle.c_theorems.proofs.write_call.Goals as goal

@@ -8,7 +8,6 @@ use lib.ListN.{length, get_or, take, drop}
 use lib.Seq.{length-take-le}
 use Rattle.options.specs.SheetWalk.{Walk, all_read, records_from}
 use Rattle.options.specs.Grouped.{none, members, body, fault_of, reached}
-use Rattle.sheet.specs.declared.Step.TheVariants.{Record}
 use Rattle.sheet.specs.declared.Step.TheVariants as step
 use Rattle.sheet.proofs.Steps as steps
 use Rattle.groups.specs.declared.Checked.TheVariants.{Passed}

@@ -1,5 +1,4 @@
 -- `codeset::contains` meets its contract. Assumes nothing.
-use borrow.Author.Rules.{rules}
 use mathlib.Core.Path.{refl}
 use Rattle.codeset.proofs.contains.Goals as goal
 

@@ -2,11 +2,10 @@ use borrow.Author.Rules.{rules}
 use Prim.Native.Nat.{ℕ, ◌≤◌}
 use Rattle.codeset.proofs.Words.{ones_four}
 use native.Mathlib.Omega.{arith}
-use mathlib.Core.Path.{◌≡◌}
 use mir.Val.{Fits}
 use mir.Syntax.{w64}
 use lib.Count.{ones, ones-le}
-use lib.ListN.{get_or, length}
+use lib.ListN.{get_or}
 use Rattle.codeset.proofs.count.Goals as goal
 
 pub overflow_add-result : goal.overflow_add-result

@@ -1,10 +1,8 @@
 use borrow.Author.Rules.{rules}
 use native.Mathlib.Omega.{arith}
 use mathlib.Core.Path.{◌≡◌, sym, ◌∙◌}
-use Prim.Native.Nat.{ℕ, ◌≤◌, ◌-◌, ◌+◌}
-use lib.ListN.{length, get_or, drop}
+use lib.ListN.{length, get_or}
 use lib.Count.{trailing_le}
-use Rattle.options.specs.CodeSet.{lowest_of}
 use Rattle.codeset.proofs.Words.{lowest_here, lowest_next, lowest_none}
 use Rattle.codeset.proofs.lowest.Goals as goal
 

@@ -1,5 +1,4 @@
 -- `cursor::after_field` meets its contract. Assumes nothing.
-use borrow.Author.Rules.{rules}
 use mathlib.Core.Path.{sym, ◌∙◌}
 use Rattle.options.specs.Message.{file, sname}
 use Rattle.message.specs.Active.{field_from}

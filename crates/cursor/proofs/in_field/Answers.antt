@@ -1,6 +1,4 @@
 -- `cursor::in_field` meets its contract. Assumes nothing.
-use borrow.Author.Rules.{rules}
-use borrow.Author.Tests.{not-true, not-false}
 use mathlib.Core.Path.{sym, ◌∙◌}
 use Rattle.cursor.proofs.Fields.{step_inactive, step_active}
 use Rattle.cursor.proofs.in_field.Goals as goal

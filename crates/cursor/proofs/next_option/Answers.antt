@@ -1,5 +1,4 @@
 -- `cursor::next_option` meets its contract. Assumes nothing.
-use borrow.Author.Rules.{rules}
 use mathlib.Core.Path.{sym, ◌∙◌}
 use Rattle.message.specs.Fields.{field_of}
 use Rattle.message.specs.Active.{field_from, later_fields, options_from}

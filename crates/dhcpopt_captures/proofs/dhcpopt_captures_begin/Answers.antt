@@ -1,5 +1,4 @@
 -- `dhcpopt_captures::dhcpopt_captures_begin` meets its contract. Assumes nothing.
-use borrow.Author.Rules.{rules}
 use mathlib.Core.Path.{refl, ap, ◌∙◌}
 use Rattle.dhcpopt_captures.specs.Plain.{plain_of}
 use Rattle.dhcpopt_captures.proofs.dhcpopt_captures_begin.Goals as goal

@@ -1,5 +1,4 @@
 -- `dhcpopt_captures::dhcpopt_captures_feed` meets its contract. Assumes nothing.
-use borrow.Author.Rules.{rules}
 use Rattle.dhcpopt_captures.proofs.Kept.{feeds_plain}
 use Rattle.dhcpopt_captures.proofs.dhcpopt_captures_feed.Goals as goal
 

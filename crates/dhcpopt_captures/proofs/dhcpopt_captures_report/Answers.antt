@@ -1,5 +1,4 @@
 -- `dhcpopt_captures::dhcpopt_captures_report` meets its contract. Assumes nothing.
-use borrow.Author.Rules.{rules}
 use mathlib.Core.Path.{subst}
 use Rattle.captures.specs.declared.Progress.{Progress}
 use Rattle.report.specs.Printed.{Reports}

@@ -1,5 +1,4 @@
 -- `dhcpopt_captures::plain` meets its contract. Assumes nothing.
-use borrow.Author.Rules.{rules}
 use Rattle.dhcpopt_captures.proofs.plain.Goals as goal
 
 pub returns-then-l : goal.returns-then-l

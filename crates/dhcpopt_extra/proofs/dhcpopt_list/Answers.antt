@@ -1,5 +1,4 @@
 -- `dhcpopt_extra::dhcpopt_list` meets its contract. Assumes nothing.
-use borrow.Author.Rules.{rules}
 use mathlib.Core.Path.{ap, ◌∙◌}
 use Rattle.filled.specs.Plain.{plain_filled}
 use Rattle.dhcpopt_extra.proofs.dhcpopt_list.Goals as goal

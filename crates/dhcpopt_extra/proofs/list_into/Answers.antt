@@ -1,14 +1,9 @@
 -- `dhcpopt_extra::list_into` meets its contract. Assumes nothing.
-use borrow.Author.Rules.{rules}
-use mathlib.Core.Path.{◌≡◌, sym, ap, subst}
-use mathlib.Core.List.{List}
-use Prim.Native.Nat.{ℕ}
+use mathlib.Core.Path.{sym, ap}
 use native.Mathlib.Omega.{arith}
 use lib.ListN.{length, replicate, length-append}
 use lib.Seq.{length-take-le}
-use Rattle.options.specs.Answers.{Filled, filled_with, listing}
-use Rattle.options.specs.Listed.{listed}
-use Rattle.filled.specs.Fill.{Fills}
+use Rattle.options.specs.Answers.{listing}
 use Rattle.dhcpopt_extra.proofs.Listing.{listed_as, text_of_lem}
 use Rattle.dhcpopt_extra.proofs.list_into.Goals as goal
 

@@ -1,9 +1,8 @@
 -- `dhcpopt_index::at_entry` meets its contract. Assumes nothing.
-use borrow.Author.Rules.{rules}
 use mathlib.Core.Path.{◌≡◌, refl, sym, ap, ◌∙◌}
 use mathlib.Core.List.{List}
 use mathlib.Core.Option.{Option}
-use Prim.Native.Nat.{ℕ, ◌+◌, ◌-◌, ◌≤◌}
+use Prim.Native.Nat.{ℕ, ◌+◌}
 use native.Mathlib.Omega.{arith}
 use native.Mathlib.Nat.{add-sub_cancel_left}
 use lib.ListN.{length, get_or, take, drop}
@@ -13,7 +12,7 @@ use Rattle.options.specs.CodeSet.{marked}
 use Rattle.options.specs.Answers as asked
 use Rattle.options.specs.Index.{used_entry, entry_answer}
 use Rattle.options.specs.IndexClaims.{Usable}
-use Rattle.lookup.specs.Found.{known_row_value, content_by}
+use Rattle.lookup.specs.Found.{content_by}
 use Rattle.lookup.proofs.Verdicts.{by_row}
 use Rattle.dhcpopt_reader.specs.Plain.{plain_content, plain_answer}
 use Rattle.dhcpopt_index.specs.declared.Span.{Span}

@@ -1,21 +1,16 @@
 -- `dhcpopt_index::content` meets its contract. Assumes nothing.
-use borrow.Author.Rules.{rules}
-use borrow.Author.Tests.{eq-eqb, not-true, not-false}
-use mathlib.Core.Path.{◌≡◌, refl, sym, ap, ◌∙◌}
-use mathlib.Core.Bool.{Bool, true, cond}
-use mathlib.Core.List.{List}
-use mathlib.Core.Option.{Option}
-use Prim.Native.Nat.{ℕ, ◌%◌, ◌<◌}
+use borrow.Author.Tests.{eq-eqb}
+use mathlib.Core.Path.{◌≡◌, sym, ap, ◌∙◌}
+use mathlib.Core.Bool.{true}
+use Prim.Native.Nat.{ℕ, ◌%◌}
 use native.Mathlib.Omega.{arith}
-use lib.ListN.{length}
 use Rattle.options.specs.Kinds.{Value, meaning}
 use Rattle.options.specs.Answers as asked
-use Rattle.kinds.specs.Numbers.{kind_at, kind_numbered, row_at, length_fits_value, values_of, breaks_value, value_fault_in}
+use Rattle.kinds.specs.Numbers.{kind_at}
 use Rattle.kinds.proofs.ByKind.{value_10, value_12, value_13}
 use Rattle.lookup.specs.Found.{value_of, content_by}
 use Rattle.lookup.proofs.Verdicts.{broken_by_lem}
 use Rattle.dhcpopt_reader.specs.Plain.{plain_content}
-use Rattle.dhcpopt_index.specs.Found.{text_content_value}
 use Rattle.dhcpopt_index.proofs.Used.{by_rules}
 use Rattle.dhcpopt_index.proofs.content.Goals as goal
 

@@ -1,5 +1,4 @@
 -- `dhcpopt_index::dhcpopt_index_build` meets its contract. Assumes nothing.
-use borrow.Author.Rules.{rules}
 use mathlib.Core.Path.{ap, ◌∙◌}
 use Rattle.filled.specs.Plain.{plain_filled}
 use Rattle.dhcpopt_index.proofs.dhcpopt_index_build.Goals as goal

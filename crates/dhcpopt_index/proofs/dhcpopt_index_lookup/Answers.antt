@@ -1,16 +1,13 @@
 -- `dhcpopt_index::dhcpopt_index_lookup` meets its contract. Assumes nothing.
-use borrow.Author.Rules.{rules}
-use mathlib.Core.Path.{◌≡◌, refl, sym, ap, ◌∙◌}
-use mathlib.Core.Bool.{Bool}
-use mathlib.Core.List.{List, [], ◌∷◌}
-use Prim.Native.Nat.{ℕ, ◌≤◌, ◌<◌}
+use mathlib.Core.Path.{◌≡◌, sym, ap, ◌∙◌}
+use mathlib.Core.List.{[], ◌∷◌}
+use Prim.Native.Nat.{ℕ, ◌<◌}
 use native.Mathlib.Omega.{arith}
-use lib.ListN.{length, get_or}
+use lib.ListN.{get_or}
 use Rattle.options.specs.Kinds.{kinds}
 use Rattle.options.specs.CodeSet.{marked}
 use Rattle.options.specs.Answers as asked
 use Rattle.options.specs.Index.{by_entry, lookup_by}
-use Rattle.message.specs.Walking.{unfit_of}
 use Rattle.message.proofs.Readings.{fit_length}
 use Rattle.dhcpopt_reader.specs.Plain.{plain_answer}
 use Rattle.dhcpopt_index.proofs.Through.{of_zero, of_end, of_unfit, of_count, of_entry, of_nothing, of_pieces, of_place}

@@ -1,5 +1,4 @@
 -- `dhcpopt_index::relay_content` meets its contract. Assumes nothing.
-use borrow.Author.Rules.{rules}
 use mathlib.Core.Path.{sym, ap, ◌∙◌}
 use Rattle.options.specs.Kinds.{Value, value_fault_value, meaning}
 use Rattle.options.specs.Answers as asked

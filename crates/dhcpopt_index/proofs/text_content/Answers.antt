@@ -1,6 +1,4 @@
 -- `dhcpopt_index::text_content` meets its contract. Assumes nothing.
-use borrow.Author.Rules.{rules}
-use borrow.Author.Tests.{not-true, not-false}
 use mathlib.Core.Path.{sym, ◌∙◌}
 use Rattle.options.specs.Kinds.{value_fault_value, meaning}
 use Rattle.dhcpopt_index.proofs.text_content.Goals as goal

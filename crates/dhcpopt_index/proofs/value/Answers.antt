@@ -1,9 +1,8 @@
 -- `dhcpopt_index::value` meets its contract. Assumes nothing.
 use borrow.Author.Rules.{rules}
-use mathlib.Core.Path.{◌≡◌, sym, ap, ◌∙◌}
+use mathlib.Core.Path.{◌≡◌, ap, ◌∙◌}
 use mir.Syntax.{w32, w64}
 use mir.Val.{to_z, of_z}
-use lib.IntN.{ℤ}
 use Rattle.options.specs.Kinds.{meaning}
 use Rattle.kinds.proofs.Numbering.{else_opaque}
 use Rattle.lookup.specs.Found.{value_of}

@@ -1,5 +1,4 @@
 -- `dhcpopt_index::value_fault` meets its contract: one of the rule's two parts. Assumes nothing.
-use borrow.Author.Rules.{rules}
 use mathlib.Core.Path.{sym, ◌∙◌}
 use native.Mathlib.Omega.{arith}
 use Rattle.dhcpopt_index.proofs.Used.{short_list}

@@ -4,7 +4,6 @@ use Rattle.dhcpopt_profile.specs.Judging.{bit_if}
 use Rattle.dhcpopt_profile.proofs.Numbers.{not_false, not_true}
 use Rattle.dhcpopt_profile.proofs.Looks.{no_reply, rules_judged}
 use Rattle.dhcpopt_profile.proofs.Entries.{all_bits}
-use borrow.Author.Rules.{rules}
 use Rattle.dhcpopt_profile.proofs.judged.Reads as reads
 use Rattle.dhcpopt_profile.proofs.judged.Lts as lts
 use Rattle.dhcpopt_profile.proofs.bit.Reads as bit-reads

@@ -1,7 +1,6 @@
 use mathlib.Core.Path.{ap₂, ◌∙◌}
 use Rattle.dhcpopt_profile.specs.Judging.{before_by}
 use Rattle.dhcpopt_profile.proofs.Entries.{order_no_router, order_no_mask, order_places}
-use borrow.Author.Rules.{rules}
 use Rattle.dhcpopt_profile.proofs.out_of_order.Reads as reads
 use Rattle.dhcpopt_profile.proofs.out_of_order.Lts as lts
 use Rattle.dhcpopt_profile.proofs.before.Reads as before-reads

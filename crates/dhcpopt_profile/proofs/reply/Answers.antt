@@ -1,4 +1,4 @@
-use mathlib.Core.Path.{◌≡◌, refl, sym, ap, ◌∙◌}
+use mathlib.Core.Path.{◌≡◌, refl, ap, ◌∙◌}
 use native.Mathlib.Omega.{arith}
 use lib.Dec.{eqb}
 use lib.ListN.{get_or}
@@ -7,7 +7,6 @@ use Prim.Native.Nat.{◌+◌}
 use Rattle.options.specs.Reading.{either}
 use Rattle.dhcpopt_profile.specs.Judging.{reply_by}
 use Rattle.dhcpopt_profile.proofs.Entries.{One, type_entry, type_absent, type_of_size, type_of_byte}
-use borrow.Author.Rules.{rules}
 use Rattle.dhcpopt_profile.proofs.reply.Reads as reads
 use Rattle.dhcpopt_profile.proofs.reply.Lts as lts
 use Rattle.dhcpopt_profile.proofs.look.Reads as look-reads

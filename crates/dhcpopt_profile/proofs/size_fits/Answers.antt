@@ -1,6 +1,6 @@
 use mathlib.Core.Path.{refl}
 use native.Mathlib.Omega.{arith}
-use borrow.Author.Tests.{not-true, not-false, lt-ltb, le-ltb}
+use borrow.Author.Tests.{lt-ltb, le-ltb}
 use Rattle.dhcpopt_profile.proofs.size_fits.Reads as reads
 use Rattle.dhcpopt_profile.proofs.size_fits.Lts as lts
 use Rattle.dhcpopt_profile.proofs.size_fits.Goals as goal

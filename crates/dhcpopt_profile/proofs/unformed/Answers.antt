@@ -1,7 +1,6 @@
 use mathlib.Core.Path.{refl}
 use native.Mathlib.Omega.{arith}
 use Rattle.dhcpopt_profile.proofs.Rows.{by_51, by_54, by_1, by_3}
-use borrow.Author.Rules.{rules}
 use Rattle.dhcpopt_profile.proofs.unformed.Reads as reads
 use Rattle.dhcpopt_profile.proofs.unformed.Lts as lts
 use Rattle.dhcpopt_profile.proofs.bit.Reads as bit-reads

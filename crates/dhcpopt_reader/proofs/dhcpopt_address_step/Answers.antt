@@ -1,5 +1,4 @@
 -- `dhcpopt_reader::dhcpopt_address_step` meets its contract. Assumes nothing.
-use borrow.Author.Rules.{rules}
 use Rattle.options.specs.Answers.{address_step}
 use Rattle.dhcpopt_reader.proofs.Laws.{address_given, address_done}
 use Rattle.dhcpopt_reader.proofs.dhcpopt_address_step.Goals as goal

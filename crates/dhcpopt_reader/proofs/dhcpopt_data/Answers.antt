@@ -1,5 +1,4 @@
 -- `dhcpopt_reader::dhcpopt_data` meets its contract. Assumes nothing.
-use borrow.Author.Rules.{rules}
 use mathlib.Core.Path.{ap, ◌∙◌}
 use Rattle.dhcpopt_reader.specs.Plain.{plain_extent}
 use Rattle.dhcpopt_reader.proofs.dhcpopt_data.Goals as goal

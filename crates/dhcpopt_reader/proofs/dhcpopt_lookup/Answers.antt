@@ -1,5 +1,4 @@
 -- `dhcpopt_reader::dhcpopt_lookup` meets its contract. Assumes nothing.
-use borrow.Author.Rules.{rules}
 use mathlib.Core.Path.{ap, ◌∙◌}
 use mathlib.Core.List.{[], ◌∷◌}
 use Rattle.options.specs.CodeSet.{marked}

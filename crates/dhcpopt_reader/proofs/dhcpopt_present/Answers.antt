@@ -1,8 +1,6 @@
 -- `dhcpopt_reader::dhcpopt_present` meets its contract. Assumes nothing.
-use borrow.Author.Rules.{rules}
 use mathlib.Core.Path.{ap}
 use Rattle.present.specs.declared.Codes.{Codes}
-use Rattle.dhcpopt_reader.specs.declared.PlainCodes.{PlainCodes}
 use Rattle.dhcpopt_reader.proofs.dhcpopt_present.Goals as goal
 
 pub returns : goal.returns

@@ -1,5 +1,4 @@
 -- `dhcpopt_reader::dhcpopt_relay_records` meets its contract. Assumes nothing.
-use borrow.Author.Rules.{rules}
 use Rattle.dhcpopt_reader.proofs.Relay.{plain_read}
 use Rattle.dhcpopt_reader.proofs.dhcpopt_relay_records.Goals as goal
 

@@ -1,5 +1,4 @@
 -- `dhcpopt_reader::dhcpopt_vendor_records` meets its contract. Assumes nothing.
-use borrow.Author.Rules.{rules}
 use mathlib.Core.Path.{ap, ◌∙◌}
 use Rattle.filled.specs.Plain.{plain_filled}
 use Rattle.dhcpopt_reader.proofs.dhcpopt_vendor_records.Goals as goal

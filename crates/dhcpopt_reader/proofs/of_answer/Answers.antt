@@ -1,5 +1,4 @@
 -- `dhcpopt_reader::of_answer` meets its contract. Assumes nothing.
-use borrow.Author.Rules.{rules}
 use mathlib.Core.Path.{◌≡◌, sym, ap, ◌∙◌, subst}
 use Rattle.lookup.specs.Shown.{answer_of}
 use Rattle.lookup.specs.declared.Answer.{Answer}

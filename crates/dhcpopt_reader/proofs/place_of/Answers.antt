@@ -1,5 +1,4 @@
 -- `dhcpopt_reader::place_of` meets its contract. Assumes nothing.
-use borrow.Author.Rules.{rules}
 use borrow.Author.Tests.{eq-eqb, ne_eqb}
 use Rattle.dhcpopt_reader.proofs.place_of.Goals as goal
 

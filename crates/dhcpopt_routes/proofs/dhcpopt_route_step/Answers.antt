@@ -1,5 +1,4 @@
 -- `dhcpopt_routes::dhcpopt_route_step` meets its contract. Assumes nothing.
-use borrow.Author.Rules.{rules}
 use Rattle.options.specs.Routes.{route_step}
 use Rattle.dhcpopt_routes.proofs.Kept.{route_given, route_done}
 use Rattle.dhcpopt_routes.proofs.dhcpopt_route_step.Goals as goal

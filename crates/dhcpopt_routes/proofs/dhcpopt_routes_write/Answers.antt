@@ -1,5 +1,4 @@
 -- `dhcpopt_routes::dhcpopt_routes_write` meets its contract. Assumes nothing.
-use borrow.Author.Rules.{rules}
 use mathlib.Core.Path.{ap, ◌∙◌}
 use Rattle.filled.specs.Plain.{plain_filled}
 use Rattle.dhcpopt_routes.proofs.dhcpopt_routes_write.Goals as goal

@@ -3,7 +3,6 @@ use mathlib.Core.Path.{sym, ap, ◌∙◌}
 use Rattle.options.specs.Grouped.{check}
 use Rattle.groups.proofs.Laws.{verdict_of_lem}
 use Rattle.groups.specs.Check.{plain_checked}
-use borrow.Author.Rules.{rules}
 use Rattle.dhcpopt_writer.proofs.dhcpopt_check_grouped.Goals as goal
 
 pub returns : goal.returns

@@ -1,7 +1,6 @@
 -- `dhcpopt_writer::dhcpopt_choose` meets its contract. Assumes nothing.
 use mathlib.Core.Path.{ap, ◌∙◌}
 use Rattle.filled.specs.Plain.{plain_filled}
-use borrow.Author.Rules.{rules}
 use Rattle.dhcpopt_writer.proofs.dhcpopt_choose.Goals as goal
 
 pub returns : goal.returns

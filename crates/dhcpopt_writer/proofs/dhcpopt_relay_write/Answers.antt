@@ -1,5 +1,4 @@
 -- `dhcpopt_writer::dhcpopt_relay_write` meets its contract. Assumes nothing.
-use borrow.Author.Rules.{rules}
 use mathlib.Core.Path.{ap, ◌∙◌}
 use Rattle.filled.specs.Plain.{plain_filled}
 use Rattle.dhcpopt_writer.proofs.dhcpopt_relay_write.Goals as goal

@@ -1,5 +1,4 @@
 -- `dhcpopt_writer::dhcpopt_write` meets its contract. Assumes nothing.
-use borrow.Author.Rules.{rules}
 use mathlib.Core.Path.{ap, ◌∙◌}
 use Rattle.options.specs.Kinds.{kinds}
 use Rattle.options.specs.Writing as options

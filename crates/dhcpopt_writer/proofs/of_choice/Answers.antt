@@ -1,5 +1,4 @@
 -- `dhcpopt_writer::of_choice` meets its contract. Assumes nothing.
-use borrow.Author.Rules.{rules}
 use Rattle.dhcpopt_writer.proofs.of_choice.Goals as goal
 
 pub returns-in-Plan : goal.returns-in-Plan

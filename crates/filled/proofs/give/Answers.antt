@@ -5,7 +5,6 @@ use lib.ListN.{length}
 use Rattle.options.specs.Answers.{filled_with}
 use Rattle.buffer.proofs.Copied.{copied_fits}
 use Rattle.filled.proofs.Answers.{fills_small, fills_enough}
-use borrow.Author.Rules.{rules}
 use Rattle.filled.proofs.give.Goals as goal
 
 pub returns-then-room-xs : goal.returns-then-room-xs

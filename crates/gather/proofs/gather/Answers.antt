@@ -1,18 +1,16 @@
 -- `gather::gather` meets its contract: at each turn what is put, with the pieces that are left, makes the whole. Assumes nothing.
-use borrow.Author.Rules.{rules}
-use mathlib.Core.Path.{◌≡◌, sym, ap, ◌∙◌}
-use mathlib.Core.Bool.{Bool, cond}
-use mathlib.Core.List.{List, []}
-use Prim.Native.Nat.{ℕ, ◌+◌}
+use mathlib.Core.Path.{ap}
+use mathlib.Core.Bool.{cond}
+use mathlib.Core.List.{[]}
 use native.Mathlib.Omega.{arith}
 use lib.Dec.{eqb}
 use lib.ListN.{length}
 use Rattle.options.specs.Message.{Opt, opt}
 use Rattle.message.specs.Fields.{field_of}
 use Rattle.cursor.specs.declared.Position.{Position}
-use Rattle.cursor.specs.Cursor.{left, after}
+use Rattle.cursor.specs.Cursor.{after}
 use Rattle.cursor.proofs.Steps.{Next, next, none_left}
-use Rattle.text.proofs.Putting.{Left, left_all, left_more, left_none}
+use Rattle.text.proofs.Putting.{left_all, left_more, left_none}
 use Rattle.gather.specs.Joined.{joined_from}
 use Rattle.gather.proofs.Steps.{joined_none, joined_next}
 use Rattle.gather.proofs.gather.Goals as goal

@@ -1,7 +1,4 @@
 -- `gather::put_piece` meets its contract. Assumes nothing.
-use borrow.Author.Rules.{rules}
-use borrow.Author.Tests.{not-true, not-false}
-use mathlib.Core.Path.{◌∙◌}
 use Rattle.text.proofs.Putting.{puts_none, puts_as}
 use Rattle.gather.proofs.put_piece.Goals as goal
 

@@ -1,15 +1,7 @@
 -- `index::build` meets its contract. Assumes nothing.
-use borrow.Author.Rules.{rules}
-use mathlib.Core.Path.{◌≡◌, refl, sym, ap, ◌∙◌}
-use mathlib.Core.Bool.{cond}
-use mathlib.Core.List.{List}
-use Prim.Native.Nat.{ℕ, ◌≤◌}
-use native.Mathlib.Omega.{arith}
-use lib.ListN.{length}
-use Rattle.message.specs.Walking.{unfit_of}
+use mathlib.Core.Path.{sym, ◌∙◌}
 use Rattle.message.proofs.Readings.{fit_length}
-use Rattle.index.specs.Filling.{cleaned}
-use Rattle.index.proofs.Entries.{blank_marked, clean_size}
+use Rattle.index.proofs.Entries.{blank_marked}
 use Rattle.index.proofs.Built.{build_unfit, build_count, build_refused, build_done, last_size}
 use Rattle.index.proofs.build.Goals as goal
 

@@ -1,6 +1,5 @@
 -- `index::clean` meets its contract. Assumes nothing.
-use borrow.Author.Rules.{rules}
-use mathlib.Core.Path.{◌≡◌, refl}
+use mathlib.Core.Path.{refl}
 use Rattle.index.proofs.clean.Goals as goal
 
 pub returns : goal.returns

@@ -1,14 +1,10 @@
 -- `index::look` meets its contract. Assumes nothing.
-use borrow.Author.Rules.{rules}
-use mathlib.Core.Path.{◌≡◌, refl, sym, ap, ap₂, ◌∙◌}
-use mathlib.Core.List.{List}
-use Prim.Native.Nat.{ℕ, ◌+◌, ◌<◌, ◌≤◌}
+use mathlib.Core.Path.{◌≡◌, sym, ◌∙◌}
+use Prim.Native.Nat.{◌+◌}
 use native.Mathlib.Omega.{arith}
 use native.Mathlib.Nat.{add-sub_cancel_left}
-use lib.ListN.{length, get_or, take, drop, set}
-use Rattle.message.specs.Walk.{over_stop_value, over_after_value}
-use Rattle.index.specs.declared.Seen.{Seen}
-use Rattle.index.specs.Filling.{seen_at, seen_refused, entry_after_value, noted, LooksAt}
+use lib.ListN.{get_or, take, drop}
+use Rattle.message.specs.Walk.{over_stop_value}
 use Rattle.index.proofs.Looked.{look_pad, look_end, look_last, look_long, look_stop, look_option}
 use Rattle.index.proofs.look.Goals as goal
 

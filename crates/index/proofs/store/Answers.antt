@@ -1,12 +1,8 @@
 -- `index::store` meets its contract. Assumes nothing.
-use borrow.Author.Rules.{rules}
-use mathlib.Core.Path.{◌≡◌, refl, sym, ap, ◌∙◌}
-use mathlib.Core.List.{List}
-use Prim.Native.Nat.{ℕ, ◌+◌, ◌-◌, ◌≤◌, ◌<◌}
+use mathlib.Core.Path.{◌≡◌, refl}
 use native.Mathlib.Omega.{arith}
-use lib.ListN.{length, get_or, set, length-set}
-use Rattle.index.specs.Filling.{cleaned, unmarked}
-use Rattle.index.proofs.Stored.{Copied, copied_more, copied_all}
+use lib.ListN.{set, length-set}
+use Rattle.index.proofs.Stored.{copied_more, copied_all}
 use Rattle.index.proofs.store.Goals as goal
 
 pub loop-i-init : goal.loop-i-init

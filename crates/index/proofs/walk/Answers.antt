@@ -1,12 +1,6 @@
 -- `index::walk` meets its contract. Assumes nothing.
-use borrow.Author.Rules.{rules}
-use mathlib.Core.Path.{◌≡◌, refl, sym, ap, ap₂, ◌∙◌}
-use mathlib.Core.List.{List}
-use Prim.Native.Nat.{ℕ, ◌+◌, ◌-◌, ◌<◌, ◌≤◌}
 use native.Mathlib.Omega.{arith}
-use lib.ListN.{length, get_or, set}
-use Rattle.index.specs.Filling.{Walks}
-use Rattle.index.proofs.Looked.{Walking, walking_begins, walking_first, walking_on, walking_ends, walking_none}
+use Rattle.index.proofs.Looked.{walking_begins, walking_first, walking_on, walking_ends, walking_none}
 use Rattle.index.proofs.walk.Goals as goal
 
 pub loop-i-init : goal.loop-i-init

@@ -1,11 +1,7 @@
 -- `index::walk_if` meets its contract. Assumes nothing.
-use borrow.Author.Rules.{rules}
-use borrow.Author.Tests.{not-true, not-false}
-use mathlib.Core.Path.{◌≡◌, refl, sym, ap, ◌∙◌}
-use Prim.Native.Nat.{ℕ, ◌≤◌}
+use mathlib.Core.Path.{sym, ap, ◌∙◌}
 use native.Mathlib.Omega.{arith}
 use lib.ListN.{length}
-use Rattle.options.specs.Message.{bytes}
 use Rattle.theorems.proofs.Lengths.{field_le}
 use Rattle.message.specs.Fields.{field_of}
 use Rattle.index.proofs.Steps.{notes_none, start_low}

@@ -1,13 +1,12 @@
 -- `index_copy::copy` meets its contract. Assumes nothing.
-use mathlib.Core.Path.{◌≡◌, refl, sym, ap, ◌∙◌}
-use Prim.Native.Nat.{ℕ, ◌≤◌, ◌<◌}
+use mathlib.Core.Path.{◌≡◌, sym, ap, ◌∙◌}
+use Prim.Native.Nat.{ℕ, ◌<◌}
 use native.Mathlib.Omega.{arith}
 use lib.ListN.{length, get_or}
 use Rattle.options.specs.IndexCopy.{copy_by_entry, copy_by}
 use Rattle.filled.proofs.Answers.{fills_unfilled}
 use Rattle.message.proofs.Readings.{fit_length}
 use Rattle.index_copy.proofs.Copying.{of_zero, of_end, of_unfit, of_count, of_entry, of_nothing, of_pieces, of_place}
-use borrow.Author.Rules.{rules}
 use Rattle.index_copy.proofs.copy.Goals as goal
 
 pub returns-then-code-eq0 : goal.returns-then-code-eq0

@@ -1,12 +1,11 @@
 -- `index_copy::copy_entry` meets its contract. Assumes nothing.
-use mathlib.Core.Path.{◌≡◌, refl, sym, ap, ◌∙◌}
-use Prim.Native.Nat.{ℕ, ◌+◌, ◌≤◌}
+use mathlib.Core.Path.{refl}
+use Prim.Native.Nat.{◌+◌}
 use native.Mathlib.Omega.{arith}
 use native.Mathlib.Nat.{add-sub_cancel_left}
-use lib.ListN.{length, get_or, take, drop}
+use lib.ListN.{get_or, take, drop}
 use Rattle.dhcpopt_index.proofs.Used.{passes, used, end_within}
 use Rattle.index_copy.proofs.Copying.{entry_unused, entry_used}
-use borrow.Author.Rules.{rules}
 use Rattle.index_copy.proofs.copy_entry.Goals as goal
 
 pub returns-then-end-start : goal.returns-then-end-start

@@ -1,8 +1,6 @@
 -- `item_reader::first_of` meets its contract. Assumes nothing.
-use mathlib.Core.Path.{◌≡◌, refl}
-use borrow.Author.Rules.{rules}
+use mathlib.Core.Path.{refl}
 use borrow.Author.Tests.{eq-eqb, ne_eqb}
-use native.Mathlib.Omega.{arith}
 use Rattle.item_reader.proofs.first_of.Goals as goal
 
 pub returns-then-start-eq0 : goal.returns-then-start-eq0

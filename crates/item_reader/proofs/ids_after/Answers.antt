@@ -1,6 +1,5 @@
 -- `item_reader::ids_after` meets its contract. Assumes nothing.
-use mathlib.Core.Path.{◌≡◌, refl}
-use borrow.Author.Rules.{rules}
+use mathlib.Core.Path.{refl}
 use borrow.Author.Tests.{eq-eqb, ne_eqb}
 use Rattle.item_reader.proofs.ids_after.Goals as goal
 

@@ -1,6 +1,6 @@
 -- `item_reader::pad_or_end` meets its contract. Assumes nothing.
-use mathlib.Core.Path.{◌≡◌, refl}
-use borrow.Author.Tests.{eq-eqb, ne_eqb, not-true, not-false}
+use mathlib.Core.Path.{refl}
+use borrow.Author.Tests.{eq-eqb, ne_eqb}
 use Rattle.item_reader.proofs.pad_or_end.Goals as goal
 
 pub returns-then-not-marked : goal.returns-then-not-marked

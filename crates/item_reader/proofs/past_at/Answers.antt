@@ -1,6 +1,5 @@
 -- `item_reader::past_at` meets its contract. Assumes nothing.
-use mathlib.Core.Path.{◌≡◌, refl}
-use borrow.Author.Rules.{rules}
+use mathlib.Core.Path.{refl}
 use Rattle.item_reader.proofs.past_at.Goals as goal
 
 pub returns : goal.returns

@@ -2,7 +2,7 @@
 use borrow.Author.Rules.{rules}
 use native.Mathlib.Omega.{arith}
 use mathlib.Core.Path.{◌≡◌, sym, ap, ◌∙◌}
-use mathlib.Core.Bool.{Bool, true, false}
+use mathlib.Core.Bool.{true, false}
 use mathlib.Core.List.{List}
 use Prim.Native.Nat.{ℕ, ◌+◌, ◌-◌, ◌≤◌, ◌<◌}
 use lib.ListN.{length, get_or, take, drop}
@@ -10,7 +10,7 @@ use Rattle.buffer.specs.Written.{laid}
 use Rattle.record_writer.specs.Room.{record_of}
 use Rattle.record_writer.proofs.Bytes.{laid_record}
 use Rattle.item_reader.specs.Laid.{pad_or_end_value}
-use Rattle.item_reader.proofs.Laying.{Laying, laying_begins, laying_ends, laying_end, laying_pad, head_in, within, body_length, item_room, laying_on, part_is}
+use Rattle.item_reader.proofs.Laying.{laying_begins, laying_ends, laying_end, laying_pad, head_in, within, body_length, item_room, laying_on, part_is}
 use Rattle.item_reader.proofs.put_items.Goals as goal
 
 -- ---- The needs

@@ -1,5 +1,4 @@
 -- `item_reader::relay_records` meets its contract. Assumes nothing.
-use borrow.Author.Rules.{rules}
 use native.Mathlib.Omega.{arith}
 use Rattle.item_reader.proofs.RelayOutcomes.{none_at_all, laid_size, no_past, reads_8, reads_11, reads_given}
 use Rattle.item_reader.proofs.relay_records.Goals as goal

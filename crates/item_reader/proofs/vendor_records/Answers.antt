@@ -1,5 +1,4 @@
 -- `item_reader::vendor_records` meets its contract. Assumes nothing.
-use borrow.Author.Rules.{rules}
 use native.Mathlib.Omega.{arith}
 use Rattle.item_reader.proofs.VendorOutcomes.{no_past, laid_size, fills_17, fills_11, fills_given}
 use Rattle.item_reader.proofs.vendor_records.Goals as goal

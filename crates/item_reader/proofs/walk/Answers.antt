@@ -1,10 +1,7 @@
 -- `item_reader::walk` meets its contract: at each turn what is left of the bytes, with what was met, tells of the whole. Assumes nothing.
-use borrow.Author.Rules.{rules}
 use native.Mathlib.Omega.{arith}
-use mathlib.Core.Path.{◌≡◌, refl, sym, ap, ◌∙◌}
-use Prim.Native.Nat.{ℕ, ◌+◌, ◌-◌}
-use lib.ListN.{length}
-use Rattle.item_reader.proofs.Walking.{Walking, begins, ends, cut, runs_past, moves}
+use mathlib.Core.Path.{refl, ◌∙◌}
+use Rattle.item_reader.proofs.Walking.{begins, ends, cut, runs_past, moves}
 use Rattle.item_reader.proofs.walk.Goals as goal
 
 pub loop-at-init : goal.loop-at-init

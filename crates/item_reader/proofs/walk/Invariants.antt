@@ -1,10 +1,7 @@
 -- `item_reader::walk` meets its contract: at each turn what is left of the bytes, with what was met, tells of the whole. Assumes nothing.
-use borrow.Author.Rules.{rules}
-use native.Mathlib.Omega.{arith}
-use mathlib.Core.Path.{◌≡◌, refl, sym, ap, ◌∙◌}
-use Prim.Native.Nat.{ℕ, ◌+◌, ◌-◌}
+use Prim.Native.Nat.{◌-◌}
 use lib.ListN.{length}
-use Rattle.item_reader.proofs.Walking.{Walking, begins, ends, cut, runs_past, moves}
+use Rattle.item_reader.proofs.Walking.{Walking}
 use Rattle.item_reader.proofs.walk.Given as goal
 
 abbrev pub invariant-loop-at : goal.invariant-loop-at

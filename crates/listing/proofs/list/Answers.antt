@@ -1,5 +1,4 @@
 -- `listing::list` meets its contract. Assumes nothing.
-use borrow.Author.Rules.{rules}
 use mathlib.Core.Path.{sym}
 use native.Mathlib.Omega.{arith}
 use Rattle.message.proofs.Callers.{all_bytes}

@@ -1,5 +1,4 @@
 -- `listing::put_count` meets its contract. Assumes nothing.
-use borrow.Author.Rules.{rules}
 use Rattle.text.proofs.Putting.{puts_as, puts_more}
 use Rattle.listing.proofs.Lines.{accepted_made}
 use Rattle.listing.proofs.put_count.Goals as goal

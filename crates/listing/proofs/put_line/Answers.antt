@@ -1,5 +1,4 @@
 -- `listing::put_line` meets its contract. Assumes nothing.
-use borrow.Author.Rules.{rules}
 use Rattle.message.specs.Fields.{field_of}
 use Rattle.text.proofs.Putting.{puts_as, puts_more}
 use Rattle.listing.proofs.Lines.{line_made}

@@ -1,5 +1,4 @@
 -- `listing::put_name` meets its contract. Assumes nothing.
-use borrow.Author.Rules.{rules}
 use mathlib.Core.Path.{◌≡◌, sym, ap}
 use Rattle.options.specs.Answers.{field_name}
 use Rattle.message.specs.declared.Field.{Field}

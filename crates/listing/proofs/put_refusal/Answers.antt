@@ -1,5 +1,4 @@
 -- `listing::put_refusal` meets its contract. Assumes nothing.
-use borrow.Author.Rules.{rules}
 use Rattle.text.proofs.Putting.{puts_as, puts_more}
 use Rattle.listing.proofs.Lines.{refused_made}
 use Rattle.listing.proofs.put_refusal.Goals as goal

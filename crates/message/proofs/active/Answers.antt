@@ -1,5 +1,4 @@
 -- `message::active` meets its contract. Assumes nothing.
-use borrow.Author.Rules.{rules}
 use Rattle.message.proofs.active.Goals as goal
 
 pub returns-in-File : goal.returns-in-File

@@ -1,5 +1,4 @@
 -- `message::after_file` meets its contract. Assumes nothing.
-use borrow.Author.Rules.{rules}
 use Rattle.message.proofs.after_file.Goals as goal
 
 pub returns-then-sname_on : goal.returns-then-sname_on

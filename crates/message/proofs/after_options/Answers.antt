@@ -1,5 +1,4 @@
 -- `message::after_options` meets its contract. Assumes nothing.
-use borrow.Author.Rules.{rules}
 use Rattle.message.proofs.after_options.Goals as goal
 
 pub returns-then-file_on : goal.returns-then-file_on

@@ -1,13 +1,9 @@
 -- `message::after_pads` meets its contract. Assumes nothing.
 use borrow.Author.Rules.{rules}
 use native.Mathlib.Omega.{arith}
-use mathlib.Core.Path.{◌≡◌, refl, sym, ap, ◌∙◌}
-use mathlib.Core.Bool.{true, false, cond}
-use Prim.Native.Nat.{ℕ, ◌+◌, ◌-◌, ◌%◌, ◌≤◌, ◌<◌}
-use lib.ListN.{length, get_or, drop}
-use borrow.Author.Tests.{eq-eqb, ne_eqb, le-leb, lt-leb, not-true, not-false}
-use Rattle.options.specs.Reading.{parse}
-use Rattle.wire.proofs.Laws.{rest, rest_pad}
+use mathlib.Core.Path.{refl, sym, ◌∙◌}
+use mathlib.Core.Bool.{true, false}
+use Rattle.wire.proofs.Laws.{rest_pad}
 use Rattle.message.proofs.after_pads.Goals as goal
 
 pub loop-i-init : goal.loop-i-init

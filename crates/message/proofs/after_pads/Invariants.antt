@@ -1,13 +1,8 @@
 -- `message::after_pads` meets its contract. Assumes nothing.
-use borrow.Author.Rules.{rules}
-use native.Mathlib.Omega.{arith}
-use mathlib.Core.Path.{◌≡◌, refl, sym, ap, ◌∙◌}
-use mathlib.Core.Bool.{true, false, cond}
-use Prim.Native.Nat.{ℕ, ◌+◌, ◌-◌, ◌%◌, ◌≤◌, ◌<◌}
-use lib.ListN.{length, get_or, drop}
-use borrow.Author.Tests.{eq-eqb, ne_eqb, le-leb, lt-leb, not-true, not-false}
-use Rattle.options.specs.Reading.{parse}
-use Rattle.wire.proofs.Laws.{rest, rest_pad}
+use mathlib.Core.Path.{◌≡◌}
+use Prim.Native.Nat.{◌-◌, ◌≤◌}
+use lib.ListN.{length}
+use Rattle.wire.proofs.Laws.{rest}
 use Rattle.message.proofs.after_pads.Given as goal
 
 abbrev pub invariant-loop-i : goal.invariant-loop-i

@@ -1,6 +1,5 @@
 -- `message::codes` meets its contract. Assumes nothing.
-use borrow.Author.Rules.{rules}
-use mathlib.Core.Path.{◌≡◌, refl}
+use mathlib.Core.Path.{refl}
 use Rattle.options.specs.KindClaims.{AllBytes}
 use Rattle.theorems.proofs.View.{clash}
 use Rattle.message.proofs.Twin.{all_bytes}

@@ -1,5 +1,4 @@
 -- `message::field_bytes` meets its contract. Assumes nothing.
-use borrow.Author.Rules.{rules}
 use mathlib.Core.Path.{◌∙◌}
 use Rattle.message.proofs.Laws.{take_more}
 use Rattle.message.proofs.field_bytes.Goals as goal

@@ -1,10 +1,6 @@
 -- `message::fields` meets its contract: at each turn the fields that are left give the same as all. Assumes nothing.
-use borrow.Author.Rules.{rules}
-use native.Mathlib.Omega.{arith}
-use mathlib.Core.Path.{◌≡◌, refl, sym, ap, ◌∙◌}
-use Prim.Native.Nat.{ℕ, ◌+◌, ◌-◌, ◌≤◌, ◌<◌}
-use lib.ListN.{length}
-use Rattle.message.proofs.Turns.{Turning, turning_begins, turning_refused, turning_ends, turning_less, turning_two, turning_file, turning_sname, part_length, turn_small}
+use Prim.Native.Nat.{◌-◌}
+use Rattle.message.proofs.Turns.{Turning}
 use Rattle.message.proofs.fields.Given as goal
 
 abbrev pub invariant-loop-s : goal.invariant-loop-s

@@ -1,7 +1,6 @@
 -- `message::items` meets its contract. Assumes nothing.
-use borrow.Author.Rules.{rules}
 use native.Mathlib.Omega.{arith}
-use mathlib.Core.Path.{◌≡◌, refl}
+use mathlib.Core.Path.{refl}
 use Rattle.options.specs.Reading.{parse}
 use Rattle.options.specs.Vendor.{items_in}
 use Rattle.message.proofs.Bare.{told_small, measured, no_items}

@@ -1,11 +1,6 @@
 -- `message::last` meets its contract. Assumes nothing.
-use borrow.Author.Rules.{rules}
-use native.Mathlib.Omega.{arith}
-use mathlib.Core.Path.{◌≡◌, refl, sym, ap, ◌∙◌}
-use mathlib.Core.Bool.{true, false, cond}
-use Prim.Native.Nat.{ℕ, ◌+◌, ◌-◌, ◌%◌, ◌≤◌, ◌<◌}
-use lib.ListN.{length, get_or, drop}
-use borrow.Author.Tests.{eq-eqb, ne_eqb, le-leb, lt-leb, not-true, not-false}
+use mathlib.Core.Path.{◌∙◌}
+use mathlib.Core.Bool.{true, false}
 use Rattle.message.proofs.Walks.{last_none, last_end, last_pad, last_cut}
 use Rattle.message.proofs.last.Goals as goal
 

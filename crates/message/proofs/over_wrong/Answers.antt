@@ -1,7 +1,6 @@
 -- `message::over_wrong` meets its contract. Assumes nothing.
-use borrow.Author.Rules.{rules}
 use lib.ListN.{get_or}
-use borrow.Author.Tests.{eq-eqb, not-true, not-false}
+use borrow.Author.Tests.{eq-eqb}
 use Rattle.message.proofs.Walks.{right_length, right_one, right_above}
 use Rattle.message.proofs.over_wrong.Goals as goal
 

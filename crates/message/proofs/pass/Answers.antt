@@ -1,13 +1,9 @@
 -- `message::pass` meets its contract: at each turn what is left gives the same as the whole. Assumes nothing.
-use borrow.Author.Rules.{rules}
 use native.Mathlib.Omega.{arith}
-use mathlib.Core.Path.{◌≡◌, refl, sym, ap, ◌∙◌}
+use mathlib.Core.Path.{sym, ap, ◌∙◌}
 use mathlib.Core.Bool.{true, false}
-use Prim.Native.Nat.{ℕ, ◌+◌, ◌-◌, ◌≤◌, ◌<◌}
-use lib.ListN.{length, get_or}
-use Rattle.options.specs.CodeSet.{marked}
+use Prim.Native.Nat.{ℕ, ◌+◌}
 use Rattle.theorems.proofs.View.{clash}
-use Rattle.message.specs.Walk.{Passing, Passes}
 use Rattle.message.proofs.Walks.{passing_begins, passing_on, passes_past, lasts_end, tally_one}
 use Rattle.message.proofs.pass.Goals as goal
 

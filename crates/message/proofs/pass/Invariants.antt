@@ -1,14 +1,7 @@
 -- `message::pass` meets its contract: at each turn what is left gives the same as the whole. Assumes nothing.
-use borrow.Author.Rules.{rules}
-use native.Mathlib.Omega.{arith}
-use mathlib.Core.Path.{◌≡◌, refl, sym, ap, ◌∙◌}
-use mathlib.Core.Bool.{true, false}
-use Prim.Native.Nat.{ℕ, ◌+◌, ◌-◌, ◌≤◌, ◌<◌}
-use lib.ListN.{length, get_or}
-use Rattle.options.specs.CodeSet.{marked}
-use Rattle.theorems.proofs.View.{clash}
-use Rattle.message.specs.Walk.{Passing, Passes}
-use Rattle.message.proofs.Walks.{passing_begins, passing_on, passes_past, lasts_end, tally_one}
+use Prim.Native.Nat.{◌-◌}
+use lib.ListN.{length}
+use Rattle.message.specs.Walk.{Passing}
 use Rattle.message.proofs.pass.Given as goal
 
 abbrev pub invariant-loop-i : goal.invariant-loop-i

@@ -1,5 +1,5 @@
 -- `message::ran_out` meets its contract. Assumes nothing.
-use mathlib.Core.Path.{◌≡◌, refl}
+use mathlib.Core.Path.{refl}
 use borrow.Author.Tests.{eq-eqb, ne_eqb}
 use Rattle.message.proofs.ran_out.Goals as goal
 

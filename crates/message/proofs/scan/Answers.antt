@@ -4,7 +4,7 @@ use native.Mathlib.Omega.{arith}
 use mathlib.Core.Path.{◌≡◌, sym, ◌∙◌}
 use mathlib.Core.Bool.{cond}
 use lib.Dec.{eqb}
-use Prim.Native.Nat.{ℕ, ◌<◌, ◌≤◌, ◌%◌}
+use Prim.Native.Nat.{◌<◌, ◌%◌}
 use Rattle.codeset.proofs.Words.{one_shl}
 use Rattle.message.specs.Walking.{unfit_of}
 use Rattle.message.proofs.Twin.{all_bytes}

@@ -1,7 +1,6 @@
 -- `message::unfit` meets its contract. Assumes nothing.
-use borrow.Author.Rules.{rules}
 use mathlib.Core.Path.{sym, ◌∙◌}
-use borrow.Author.Tests.{lt-ltb, le-ltb, not-true, not-false}
+use borrow.Author.Tests.{lt-ltb, le-ltb}
 use Rattle.message.proofs.unfit.Goals as goal
 
 pub returns-then-m-lt240 : goal.returns-then-m-lt240

@@ -1,6 +1,5 @@
 -- `message::unfit_message` meets its contract. Assumes nothing.
-use borrow.Author.Rules.{rules}
-use mathlib.Core.Path.{◌≡◌, refl}
+use mathlib.Core.Path.{refl}
 use Rattle.message.proofs.unfit_message.Goals as goal
 
 pub returns-then-bare : goal.returns-then-bare

@@ -1,5 +1,4 @@
 -- `present::present` meets its contract. Assumes nothing.
-use borrow.Author.Rules.{rules}
 use Rattle.present.proofs.Laws.{codes_are}
 use Rattle.present.proofs.present.Goals as goal
 

@@ -1,5 +1,4 @@
 -- `ranges::in_ranges` meets its contract: no step leaves 64 bits. Assumes nothing.
-use borrow.Author.Rules.{rules}
 use mathlib.Core.Path.{refl}
 use Rattle.ranges.specs.Words.{in_ranges_value}
 use Rattle.ranges.proofs.in_ranges.Goals as goal

@@ -1,5 +1,4 @@
 -- `ranges::is_text` meets its contract: computed for the codes below 77, and no code from there on has a row. Assumes nothing.
-use borrow.Author.Rules.{rules}
 use native.Mathlib.Omega.{arith}
 use mathlib.Core.Path.{◌∙◌}
 use Rattle.ranges.specs.Rows.{row_number}

@@ -1,5 +1,4 @@
 -- `ranges::row` meets its contract: by the ranges with the code, or as `above` says. Assumes nothing.
-use borrow.Author.Rules.{rules}
 use mathlib.Core.Path.{◌∙◌}
 use Rattle.ranges.proofs.row.Goals as goal
 

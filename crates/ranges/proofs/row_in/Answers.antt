@@ -1,5 +1,4 @@
 -- `ranges::row_in` meets its contract: no step leaves 64 bits. Assumes nothing.
-use borrow.Author.Rules.{rules}
 use mathlib.Core.Path.{refl}
 use lib.Count.{count_leading_zeros}
 use Rattle.ranges.specs.Words.{range_row}

@@ -1,9 +1,8 @@
 -- `records::put_field` meets its contract: at each turn what is laid, with what is left of the field, is the whole. Assumes nothing.
-use borrow.Author.Rules.{rules}
 use native.Mathlib.Omega.{arith}
-use Prim.Native.Nat.{◌+◌, ◌-◌, ◌≤◌}
+use Prim.Native.Nat.{◌+◌, ◌≤◌}
 use lib.ListN.{length, get_or}
-use Rattle.records.proofs.Laying.{Laying, laying_begins, laying_in, laying_ends, laying_pad, laying_within, part_length, option_room, laying_on}
+use Rattle.records.proofs.Laying.{laying_begins, laying_in, laying_ends, laying_pad, laying_within, part_length, option_room, laying_on}
 use Rattle.records.proofs.put_field.Goals as goal
 
 pub loop-at-init : goal.loop-at-init

@@ -1,6 +1,4 @@
 -- `records::put_if` meets its contract. Assumes nothing.
-use borrow.Author.Rules.{rules}
-use borrow.Author.Tests.{not-true, not-false}
 use Rattle.records.proofs.Laying.{written_inactive}
 use Rattle.records.proofs.put_if.Goals as goal
 

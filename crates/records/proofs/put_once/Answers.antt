@@ -1,5 +1,4 @@
 -- `records::put_once` meets its contract. Assumes nothing.
-use borrow.Author.Rules.{rules}
 use native.Mathlib.Omega.{arith}
 use mathlib.Core.Path.{refl}
 use Rattle.records.proofs.put_once.Goals as goal

@@ -1,10 +1,7 @@
 -- `records::put_piece` meets its contract. Assumes nothing.
-use borrow.Author.Rules.{rules}
-use native.Mathlib.Omega.{arith}
-use mathlib.Core.Path.{◌≡◌, refl}
+use mathlib.Core.Path.{refl}
 use Prim.Native.Nat.{◌+◌, ◌≤◌}
 use lib.ListN.{length}
-use borrow.Author.Tests.{not-true, not-false}
 use Rattle.buffer.proofs.Writing.{laid_copied, written_none}
 use Rattle.records.proofs.put_piece.Goals as goal
 

@@ -1,7 +1,6 @@
 -- `records::put_records` meets its contract. Assumes nothing.
-use borrow.Author.Rules.{rules}
 use native.Mathlib.Omega.{arith}
-use mathlib.Core.Path.{◌≡◌, sym, ap, ◌∙◌}
+use mathlib.Core.Path.{sym, ap}
 use lib.ListN.{length}
 use Rattle.options.specs.KindClaims.{AllBytes}
 use Rattle.message.proofs.Callers.{all_bytes}

@@ -1,7 +1,6 @@
 -- `records::records` meets its contract. Assumes nothing.
 use borrow.Author.Rules.{rules}
-use native.Mathlib.Omega.{arith}
-use mathlib.Core.Path.{◌≡◌, sym, ap, ◌∙◌}
+use mathlib.Core.Path.{sym, ap, ◌∙◌}
 use borrow.Author.Tests.{ltb-true, ltb-false}
 use Rattle.options.specs.CodeSet.{count_of}
 use Rattle.message.proofs.Callers.{all_bytes}

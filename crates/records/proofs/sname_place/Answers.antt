@@ -1,5 +1,4 @@
 -- `records::sname_place` meets its contract. Assumes nothing.
-use borrow.Author.Rules.{rules}
 use mathlib.Core.Path.{sym, ◌∙◌}
 use Rattle.records.proofs.sname_place.Goals as goal
 

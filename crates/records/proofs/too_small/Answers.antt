@@ -1,5 +1,4 @@
 -- `records::too_small` meets its contract. Assumes nothing.
-use borrow.Author.Rules.{rules}
 use Rattle.records.proofs.too_small.Goals as goal
 
 pub returns : goal.returns

@@ -1,8 +1,7 @@
 -- `report_captures::fill_all` meets its contract. Assumes nothing.
 use Rattle.std.proofs.Common.{rules}
 use Rattle.message.proofs.Callers.{all_bytes}
-use Rattle.report_captures.specs.Filled.{Filled}
-use Rattle.report_captures.proofs.Fillings.{filled_first, filled_more, filled_end}
+use Rattle.report_captures.proofs.Fillings.{filled_first, filled_more}
 use Rattle.report_captures.proofs.fill_all.Goals as goal
 
 pub loop-left-init : goal.loop-left-init

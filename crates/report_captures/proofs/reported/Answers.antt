@@ -1,5 +1,5 @@
 -- `report_captures::reported` meets its contract. Assumes nothing.
-use Rattle.std.proofs.Common.{ℕ, replicate, refl, arith, rules}
+use Rattle.std.proofs.Common.{ℕ, replicate, refl, arith}
 use lib.ListN.{length-replicate}
 use Rattle.report_captures.proofs.Fillings.{printed}
 use Rattle.report_captures.proofs.reported.Goals as goal

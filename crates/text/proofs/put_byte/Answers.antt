@@ -1,5 +1,4 @@
 -- `text::put_byte` meets its contract. Assumes nothing.
-use borrow.Author.Rules.{rules}
 use mathlib.Core.List.{[], ◌∷◌}
 use native.Mathlib.Omega.{arith}
 use Rattle.buffer.proofs.Writing.{written_byte}

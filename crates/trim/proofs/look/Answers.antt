@@ -1,14 +1,9 @@
 -- `trim::look` meets its contract. Assumes nothing.
-use mathlib.Core.Path.{◌≡◌, refl, sym, ap, ◌∙◌}
-use Prim.Native.Nat.{ℕ, ◌+◌}
+use mathlib.Core.Path.{sym, ◌∙◌}
 use native.Mathlib.Omega.{arith}
 use native.Mathlib.Nat.{add-sub_cancel_left}
-use lib.ListN.{get_or, take, drop}
-use Rattle.options.specs.Reading.{is_options_value}
 use Rattle.message.specs.Fields.{field_of}
-use Rattle.message.specs.Walk.{over_stop_value, over_after_value}
 use Rattle.trim.proofs.Steps.{look_pad, look_end, look_last, look_long, look_stop, look_option}
-use borrow.Author.Rules.{rules}
 use Rattle.trim.proofs.look.Goals as goal
 
 pub returns-then-c-eq0 : goal.returns-then-c-eq0

@@ -1,13 +1,12 @@
 -- `trim::options_end` meets its contract. Assumes nothing.
-use mathlib.Core.Path.{◌≡◌, refl, sym, ap, ◌∙◌}
-use Prim.Native.Nat.{ℕ, ◌+◌, ◌≤◌}
+use mathlib.Core.Path.{refl, sym, ap, ◌∙◌}
+use Prim.Native.Nat.{◌+◌}
 use native.Mathlib.Omega.{arith}
 use lib.ListN.{length}
 use Rattle.options.specs.Message.{options}
 use Rattle.theorems.proofs.Lengths.{field_le}
 use Rattle.message.proofs.Readings.{fit_length}
 use Rattle.trim.proofs.Whole.{end_unfit, end_first, end_file, end_sname, end_found, at_short}
-use borrow.Author.Rules.{rules}
 use Rattle.trim.proofs.options_end.Goals as goal
 
 pub returns-then-number-ne0 : goal.returns-then-number-ne0

@@ -1,12 +1,11 @@
 -- `trim::walk` meets its contract. Assumes nothing.
-use borrow.Author.Rules.{rules}
-use mathlib.Core.Path.{◌≡◌, refl, sym, ap, ◌∙◌}
-use Prim.Native.Nat.{ℕ, ◌+◌, ◌-◌, ◌≤◌}
+use mathlib.Core.Path.{◌≡◌, refl, ap, ◌∙◌}
+use Prim.Native.Nat.{ℕ, ◌+◌}
 use native.Mathlib.Omega.{arith}
 use lib.ListN.{length}
 use Rattle.options.specs.Message.{start}
 use Rattle.message.specs.Fields.{field_of}
-use Rattle.trim.specs.Ending.{seen_refused, seen_from}
+use Rattle.trim.specs.Ending.{seen_refused}
 use Rattle.trim.proofs.Steps.{at_none}
 use Rattle.trim.proofs.walk.Goals as goal
 

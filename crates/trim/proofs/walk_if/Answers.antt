@@ -1,11 +1,9 @@
 -- `trim::walk_if` meets its contract. Assumes nothing.
-use borrow.Author.Tests.{not-true, not-false}
-use mathlib.Core.Path.{◌≡◌, refl, sym, ap, ◌∙◌}
+use mathlib.Core.Path.{sym, ap, ◌∙◌}
 use native.Mathlib.Omega.{arith}
 use lib.ListN.{length}
 use Rattle.theorems.proofs.Lengths.{field_le}
 use Rattle.message.specs.Fields.{field_of}
-use borrow.Author.Rules.{rules}
 use Rattle.trim.proofs.walk_if.Goals as goal
 
 pub returns-then-not-active : goal.returns-then-not-active

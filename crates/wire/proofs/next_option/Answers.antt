@@ -1,12 +1,8 @@
 -- `wire::next_option` meets its contract: what is left of the field gives the same answer as the whole. Assumes nothing.
-use borrow.Author.Rules.{rules}
 use native.Mathlib.Omega.{arith}
-use mathlib.Core.Path.{◌≡◌, refl, sym, ap, ◌∙◌}
-use Prim.Native.Nat.{◌≤◌, ◌-◌}
-use lib.ListN.{length, drop}
-use Rattle.options.specs.Reading.{Parse, parse}
+use mathlib.Core.Path.{refl, sym, ap, ◌∙◌}
 use Rattle.wire.specs.Ahead.{next_of}
-use Rattle.wire.proofs.Laws.{rest, rest_none, rest_pad}
+use Rattle.wire.proofs.Laws.{rest_none, rest_pad}
 use Rattle.wire.proofs.next_option.Goals as goal
 
 pub loop-i-init : goal.loop-i-init

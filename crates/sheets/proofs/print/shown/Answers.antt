@@ -1,5 +1,4 @@
 -- `sheets::print::shown` is safe: what is left without its last zeros is no longer, by `trimmed_ends`. Assumes nothing.
-use borrow.Author.Rules.{rules}
 use native.Mathlib.Omega.{arith}
 use Rattle.theorems.proofs.TextEnds.{trimmed_ends}
 use Rattle.sheets.proofs.print.shown.Goals as goal

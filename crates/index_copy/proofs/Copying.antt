@@ -285,7 +285,7 @@ module _ (m idx : List ℕ) (c : ℕ) (old : List ℕ) where
   of_zero e = by m idx c old true (rw (eq-eqb c 0 e) refl)
 
   pub of_end : (c ≡ 0 → ⊥) → c ≡ 255 → copy_by m idx c old ≡ unfilled 10 0 old
-  of_end z e = by m idx c old true (heads.no_code c z e)
+  of_end z e = by m idx c old true (heads.no_code_lem c z e)
 
   module _ (z : c ≡ 0 → ⊥) (e : c ≡ 255 → ⊥) where
     pub of_unfit : (n p : ℕ) → n ≡ unfit_of m → (n ≡ 0 → ⊥) → p ≡ cond (eqb n 3) 236 (length m) → copy_by m idx c old ≡ unfilled n p old

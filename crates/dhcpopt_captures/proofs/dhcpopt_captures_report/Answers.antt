@@ -5,7 +5,7 @@ use Rattle.report.specs.Printed.{Reports}
 use Rattle.dhcpopt_captures.proofs.dhcpopt_captures_report.Goals as goal
 
 pub returns : goal.returns
-returns c = (
-  c.report.ensures.0,
-  subst (λ (y : Progress). Reports y c.args.verdicts.now c.args.held.now c.args.bytes.now c.args.out.now c.report.result c.report.new.out) c.progress_of.ensures c.report.ensures.1,
-)
+returns c = record {
+  size = c.report.ensures.size;
+  text = subst (λ (y : Progress). Reports y c.args.verdicts.now c.args.held.now c.args.bytes.now c.args.out.now c.report.result c.report.new.out) c.progress_of.ensures c.report.ensures.text;
+}

@@ -1,11 +1,6 @@
 use mathlib.Core.Path.{ap₂, ◌∙◌}
 use Rattle.dhcpopt_profile.specs.Judging.{before_by}
 use Rattle.dhcpopt_profile.proofs.Entries.{order_no_router, order_no_mask, order_places}
-use Rattle.dhcpopt_profile.proofs.out_of_order.Reads as reads
-use Rattle.dhcpopt_profile.proofs.out_of_order.Lts as lts
-use Rattle.dhcpopt_profile.proofs.before.Reads as before-reads
-use Rattle.dhcpopt_profile.proofs.look.Reads as look-reads
-use Rattle.dhcpopt_profile.proofs.read_before.Reads as read-before-reads
 use Rattle.dhcpopt_profile.proofs.out_of_order.Goals as goal
 
 -- src/lib.rt:152:9

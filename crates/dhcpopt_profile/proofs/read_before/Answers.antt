@@ -3,9 +3,6 @@ use mathlib.Core.Bool.{cond}
 use Prim.Native.Nat.{ℕ}
 use lib.Dec.{eqb, ltb}
 use borrow.Author.Tests.{eq-eqb, ne_eqb}
-use Rattle.dhcpopt_profile.proofs.read_before.Reads as reads
-use Rattle.dhcpopt_profile.proofs.read_before.Lts as lts
-use Rattle.dhcpopt_profile.proofs.turn.Reads as turn-reads
 use Rattle.dhcpopt_profile.proofs.read_before.Goals as goal
 
 -- src/lib.rt:139:9

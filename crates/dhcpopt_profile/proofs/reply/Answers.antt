@@ -7,10 +7,6 @@ use Prim.Native.Nat.{◌+◌}
 use Rattle.options.specs.Reading.{either}
 use Rattle.dhcpopt_profile.specs.Judging.{reply_by}
 use Rattle.dhcpopt_profile.proofs.Entries.{One, type_entry, type_absent, type_of_size, type_of_byte}
-use Rattle.dhcpopt_profile.proofs.reply.Reads as reads
-use Rattle.dhcpopt_profile.proofs.reply.Lts as lts
-use Rattle.dhcpopt_profile.proofs.look.Reads as look-reads
-use Rattle.dhcpopt_profile.proofs.reply_in.Reads as reply-in-reads
 use Rattle.dhcpopt_profile.proofs.reply.Goals as goal
 
 -- src/lib.rt:94:9

@@ -1,8 +1,6 @@
 use mathlib.Core.Path.{refl}
 use native.Mathlib.Omega.{arith}
 use borrow.Author.Tests.{lt-ltb, le-ltb}
-use Rattle.dhcpopt_profile.proofs.size_fits.Reads as reads
-use Rattle.dhcpopt_profile.proofs.size_fits.Lts as lts
 use Rattle.dhcpopt_profile.proofs.size_fits.Goals as goal
 
 -- src/lib.rt:54:9

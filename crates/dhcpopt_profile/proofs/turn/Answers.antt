@@ -1,8 +1,6 @@
 use mathlib.Core.Path.{refl}
 use native.Mathlib.Omega.{arith}
 use borrow.Author.Tests.{le-leb, lt-leb}
-use Rattle.dhcpopt_profile.proofs.turn.Reads as reads
-use Rattle.dhcpopt_profile.proofs.turn.Lts as lts
 use Rattle.dhcpopt_profile.proofs.turn.Goals as goal
 
 -- src/lib.rt:128:9

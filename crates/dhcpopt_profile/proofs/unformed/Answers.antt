@@ -1,10 +1,6 @@
 use mathlib.Core.Path.{refl}
 use native.Mathlib.Omega.{arith}
 use Rattle.dhcpopt_profile.proofs.Rows.{by_51, by_54, by_1, by_3}
-use Rattle.dhcpopt_profile.proofs.unformed.Reads as reads
-use Rattle.dhcpopt_profile.proofs.unformed.Lts as lts
-use Rattle.dhcpopt_profile.proofs.bit.Reads as bit-reads
-use Rattle.dhcpopt_profile.proofs.well_formed.Reads as well-formed-reads
 use Rattle.dhcpopt_profile.proofs.unformed.Goals as goal
 
 -- src/lib.rt:177:22
@@ -26,6 +22,6 @@ well_formed-requires-4 c = (c.requires, by_3)
 -- src/lib.rt:173:1
 pub returns : goal.returns
 returns c = (
-  rw (c.bit-lease.ensures.0, c.well-formed.ensures, c.bit-server.ensures.0, c.well_formed-2.ensures, c.bit-mask.ensures.0, c.well_formed-3.ensures, c.bit-router.ensures.0, c.well_formed-4.ensures) refl,
+  rw (c.bit-lease.ensures.0, c.well_formed-2.ensures, c.bit-server.ensures.0, c.well_formed-3.ensures, c.bit-mask.ensures.0, c.well_formed-4.ensures, c.bit-router.ensures.0, c.well_formed-5.ensures) refl,
   omega (arith, c.bit-lease.ensures.1, c.bit-server.ensures.1, c.bit-mask.ensures.1, c.bit-router.ensures.1),
 )

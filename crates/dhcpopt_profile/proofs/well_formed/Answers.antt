@@ -4,12 +4,6 @@ use native.Mathlib.Omega.{arith}
 use lib.ListN.{get_or}
 use Rattle.dhcpopt_profile.specs.Judging.{formed_by, size_fits_value}
 use Rattle.dhcpopt_profile.proofs.Entries.{One, when_in_one, formed_absent, formed_one}
-use Rattle.dhcpopt_profile.proofs.well_formed.Reads as reads
-use Rattle.dhcpopt_profile.proofs.well_formed.Lts as lts
-use Rattle.dhcpopt_profile.proofs.formed.Reads as formed-reads
-use Rattle.dhcpopt_profile.proofs.look.Reads as look-reads
-use Rattle.dhcpopt_profile.proofs.size_fits.Reads as size-fits-reads
-use Rattle.num.proofs.wide.Reads as wide-reads
 use Rattle.dhcpopt_profile.proofs.well_formed.Goals as goal
 
 -- src/lib.rt:69:9

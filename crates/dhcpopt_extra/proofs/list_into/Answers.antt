@@ -8,12 +8,12 @@ use Rattle.dhcpopt_extra.proofs.Listing.{listed_as, text_of_lem}
 use Rattle.dhcpopt_extra.proofs.list_into.Goals as goal
 
 pub slice_bounds-text-end : goal.slice_bounds-text-end
-slice_bounds-text-end c = omega (arith, c.list-n.ensures.0, simp length-append at (ap length c.list-n.ensures.1))
+slice_bounds-text-end c = omega (arith, c.list-n.ensures.size, simp length-append at (ap length c.list-n.ensures.text))
 
 pub slice_bounds-give-end : goal.slice_bounds-give-end
-slice_bounds-give-end c = sym (length-take-le c.list-n.result c.list-n.new.out (array-share-prefix-text c.before))
+slice_bounds-give-end c = sym (length-take-le c.list-n.result c.list-n.new.out (omega (arith, c.list-n.ensures.size, simp length-append at (ap length c.list-n.ensures.text))))
 
 pub returns : goal.returns
 returns c = let m = c.args.m.now in
-    let t = text_of_lem (listing m) c.list-n.new.out (replicate 16384 0) c.list-n.result c.list-n.ensures.0 c.list-n.ensures.1 in
+    let t = text_of_lem (listing m) c.list-n.new.out (replicate 16384 0) c.list-n.result c.list-n.ensures.size c.list-n.ensures.text in
     rw (listed_as m c.args.out.now) (rw t at c.give.ensures)

@@ -21,70 +21,70 @@ overflow_add-start c = let h : c.args.at < length c.args.list.now = step_within 
     search rules
 
 pub overflow_add-end : goal.overflow_add-end
-overflow_add-end c = let d = c.args.list.now in
-    let z : fault_here (drop c.args.at d) ≡ 0 = sym c.route_fault.ensures ∙ c.if-route_fault-ne0.false in
+overflow_add-end c = let z : fault_here (drop c.args.at c.args.list.now) ≡ 0 = sym c.route_fault.ensures ∙ c.if-route_fault-ne0.false in
+    let d = c.args.list.now in
     let h : c.args.at < length d = step_within d c.args.at z in
     let e : c.args.at + (width_bytes (get_or d c.args.at 0) + 5) ≤ length d = route_within d c.args.at h z in
     search rules
 
 pub overflow_add-next : goal.overflow_add-next
-overflow_add-next c = let d = c.args.list.now in
-    let z : fault_here (drop c.args.at d) ≡ 0 = sym c.route_fault.ensures ∙ c.if-route_fault-ne0.false in
+overflow_add-next c = let z : fault_here (drop c.args.at c.args.list.now) ≡ 0 = sym c.route_fault.ensures ∙ c.if-route_fault-ne0.false in
+    let d = c.args.list.now in
     let h : c.args.at < length d = step_within d c.args.at z in
     let e : c.args.at + (width_bytes (get_or d c.args.at 0) + 5) ≤ length d = route_within d c.args.at h z in
     search rules
 
 pub overflow_add-start-2 : goal.overflow_add-start-2
-overflow_add-start-2 c = let d = c.args.list.now in
-    let z : fault_here (drop c.args.at d) ≡ 0 = sym c.route_fault.ensures ∙ c.if-route_fault-ne0.false in
+overflow_add-start-2 c = let z : fault_here (drop c.args.at c.args.list.now) ≡ 0 = sym c.route_fault.ensures ∙ c.if-route_fault-ne0.false in
+    let d = c.args.list.now in
     let h : c.args.at < length d = step_within d c.args.at z in
     let e : c.args.at + (width_bytes (get_or d c.args.at 0) + 5) ≤ length d = route_within d c.args.at h z in
     search rules
 
 pub slice_bounds-first32-count : goal.slice_bounds-first32-count
-slice_bounds-first32-count c = let d = c.args.list.now in
-    let z : fault_here (drop c.args.at d) ≡ 0 = sym c.route_fault.ensures ∙ c.if-route_fault-ne0.false in
+slice_bounds-first32-count c = let z : fault_here (drop c.args.at c.args.list.now) ≡ 0 = sym c.route_fault.ensures ∙ c.if-route_fault-ne0.false in
+    let d = c.args.list.now in
     let h : c.args.at < length d = step_within d c.args.at z in
     let e : c.args.at + (width_bytes (get_or d c.args.at 0) + 5) ≤ length d = route_within d c.args.at h z in
     search rules
 
 pub slice_bounds-first32-start : goal.slice_bounds-first32-start
-slice_bounds-first32-start c = let d = c.args.list.now in
-    let z : fault_here (drop c.args.at d) ≡ 0 = sym c.route_fault.ensures ∙ c.if-route_fault-ne0.false in
+slice_bounds-first32-start c = let z : fault_here (drop c.args.at c.args.list.now) ≡ 0 = sym c.route_fault.ensures ∙ c.if-route_fault-ne0.false in
+    let d = c.args.list.now in
     let h : c.args.at < length d = step_within d c.args.at z in
     let e : c.args.at + (width_bytes (get_or d c.args.at 0) + 5) ≤ length d = route_within d c.args.at h z in
     search rules
 
 pub slice_bounds-first32-end : goal.slice_bounds-first32-end
-slice_bounds-first32-end c = let d = c.args.list.now in
-    let z : fault_here (drop c.args.at d) ≡ 0 = sym c.route_fault.ensures ∙ c.if-route_fault-ne0.false in
+slice_bounds-first32-end c = let z : fault_here (drop c.args.at c.args.list.now) ≡ 0 = sym c.route_fault.ensures ∙ c.if-route_fault-ne0.false in
+    let d = c.args.list.now in
     let h : c.args.at < length d = step_within d c.args.at z in
     let e : c.args.at + (width_bytes (get_or d c.args.at 0) + 5) ≤ length d = route_within d c.args.at h z in
     search rules
 
 pub slice_bounds-first32-count-2 : goal.slice_bounds-first32-count-2
-slice_bounds-first32-count-2 c = let d = c.args.list.now in
-    let z : fault_here (drop c.args.at d) ≡ 0 = sym c.route_fault.ensures ∙ c.if-route_fault-ne0.false in
+slice_bounds-first32-count-2 c = let z : fault_here (drop c.args.at c.args.list.now) ≡ 0 = sym c.route_fault.ensures ∙ c.if-route_fault-ne0.false in
+    let d = c.args.list.now in
     let h : c.args.at < length d = step_within d c.args.at z in
     let e : c.args.at + (width_bytes (get_or d c.args.at 0) + 5) ≤ length d = route_within d c.args.at h z in
     search rules
 
 pub slice_bounds-first32-start-2 : goal.slice_bounds-first32-start-2
-slice_bounds-first32-start-2 c = let d = c.args.list.now in
-    let z : fault_here (drop c.args.at d) ≡ 0 = sym c.route_fault.ensures ∙ c.if-route_fault-ne0.false in
+slice_bounds-first32-start-2 c = let z : fault_here (drop c.args.at c.args.list.now) ≡ 0 = sym c.route_fault.ensures ∙ c.if-route_fault-ne0.false in
+    let d = c.args.list.now in
     let h : c.args.at < length d = step_within d c.args.at z in
     let e : c.args.at + (width_bytes (get_or d c.args.at 0) + 5) ≤ length d = route_within d c.args.at h z in
     search rules
 
 pub slice_bounds-first32-end-2 : goal.slice_bounds-first32-end-2
-slice_bounds-first32-end-2 c = let d = c.args.list.now in
-    let z : fault_here (drop c.args.at d) ≡ 0 = sym c.route_fault.ensures ∙ c.if-route_fault-ne0.false in
+slice_bounds-first32-end-2 c = let z : fault_here (drop c.args.at c.args.list.now) ≡ 0 = sym c.route_fault.ensures ∙ c.if-route_fault-ne0.false in
+    let d = c.args.list.now in
     let h : c.args.at < length d = step_within d c.args.at z in
     let e : c.args.at + (width_bytes (get_or d c.args.at 0) + 5) ≤ length d = route_within d c.args.at h z in
     search rules
 
 pub returns : goal.returns
-returns c = let d = c.args.list.now in
-    let z : fault_here (drop c.args.at d) ≡ 0 = sym c.route_fault.ensures ∙ c.if-route_fault-ne0.false in
+returns c = let z : fault_here (drop c.args.at c.args.list.now) ≡ 0 = sym c.route_fault.ensures ∙ c.if-route_fault-ne0.false in
+    let d = c.args.list.now in
     let h : c.args.at < length d = step_within d c.args.at z in
     rw (step_right d c.args.at h z c.width_bytes.result c.width_bytes.ensures (λ i. (c.shared_slice_known-1.given i).fits), c.cleared-destination.ensures, c.first32.ensures, c.first32-router.ensures)

@@ -90,8 +90,7 @@ overflow_add-total c =
     omega (arith, bound, room c.args.s.now c.loop-tag.seen c.loop-tag.three c.loop-tag.one (sums c.loop-tag.total c.loop-tag.single c.loop-tag.relay) c.loop-tag.at c.loop-tag.invariant c.in-Record.tag c.in-Record.size c.in-Record.ensures, c.loop-tag.invariant.most, c.further-total.ensures.1)
 
 pub returns-then-met : goal.returns-then-met
-returns-then-met c =
-    let short : c.in-Record.size ≤ 1024 = elim c.if-size-gt255.branch [ then-size-gt255+else-size-gt1024 w ↦ w.if-size-gt1024.false | else-size-gt255 w ↦ omega (arith, w.if-size-gt255.false) ] in
+returns-then-met c = let short : c.in-Record.size ≤ 1024 = elim c.if-size-gt255.branch [ then-size-gt255+else-size-gt1024 w ↦ w.if-size-gt1024.false | else-size-gt255 w ↦ omega (arith, w.if-size-gt255.false) ] in
     let again : true ≡ marked c.loop-tag.seen c.in-Record.tag = sym c.if-met.true ∙ c.met.ensures.1.0 in
     rw (c.faulty-then-met.ensures, c.met_fault.ensures) (refused c.args.s.now c.loop-tag.seen c.loop-tag.three c.loop-tag.one c.loop-tag.total c.loop-tag.single c.loop-tag.relay c.loop-tag.at c.loop-tag.invariant c.in-Record.tag c.in-Record.size c.in-Record.ensures short c.met.ensures.1.1 true (met_number c.in-Record.tag) again refl (some_number (among c.in-Record.tag no_tags)))
 
@@ -99,8 +98,7 @@ pub high_record-r-requires : goal.high_record-r-requires
 high_record-r-requires c = (omega arith, room c.args.s.now c.loop-tag.seen c.loop-tag.three c.loop-tag.one (sums c.loop-tag.total c.loop-tag.single c.loop-tag.relay) c.loop-tag.at c.loop-tag.invariant c.in-Record.tag c.in-Record.size c.in-Record.ensures)
 
 pub returns-then-r-ne0 : goal.returns-then-r-ne0
-returns-then-r-ne0 c =
-    let short : c.in-Record.size ≤ 1024 = elim c.if-size-gt255.branch [ then-size-gt255+else-size-gt1024 w ↦ w.if-size-gt1024.false | else-size-gt255 w ↦ omega (arith, w.if-size-gt255.false) ] in
+returns-then-r-ne0 c = let short : c.in-Record.size ≤ 1024 = elim c.if-size-gt255.branch [ then-size-gt255+else-size-gt1024 w ↦ w.if-size-gt1024.false | else-size-gt255 w ↦ omega (arith, w.if-size-gt255.false) ] in
     let fresh : false ≡ marked c.loop-tag.seen c.in-Record.tag = sym c.if-met.false ∙ c.met.ensures.1.0 in
     c.faulty-then-r-ne0.ensures ∙ refused c.args.s.now c.loop-tag.seen c.loop-tag.three c.loop-tag.one c.loop-tag.total c.loop-tag.single c.loop-tag.relay c.loop-tag.at c.loop-tag.invariant c.in-Record.tag c.in-Record.size c.in-Record.ensures short c.met.ensures.1.1 false c.high_record-r.result.number fresh (ap (λ (x : High). x.number) c.high_record-r.ensures) c.if-r-ne0.true
 
@@ -108,14 +106,12 @@ pub low_record-r-requires : goal.low_record-r-requires
 low_record-r-requires c = room c.args.s.now c.loop-tag.seen c.loop-tag.three c.loop-tag.one (sums c.loop-tag.total c.loop-tag.single c.loop-tag.relay) c.loop-tag.at c.loop-tag.invariant c.in-Record.tag c.in-Record.size c.in-Record.ensures
 
 pub returns-then-r-ne0-2 : goal.returns-then-r-ne0-2
-returns-then-r-ne0-2 c =
-    let short : c.in-Record.size ≤ 1024 = elim c.if-size-gt255.branch [ then-size-gt255+else-size-gt1024 w ↦ w.if-size-gt1024.false | else-size-gt255 w ↦ omega (arith, w.if-size-gt255.false) ] in
+returns-then-r-ne0-2 c = let short : c.in-Record.size ≤ 1024 = elim c.if-size-gt255.branch [ then-size-gt255+else-size-gt1024 w ↦ w.if-size-gt1024.false | else-size-gt255 w ↦ omega (arith, w.if-size-gt255.false) ] in
     let fresh : false ≡ marked c.loop-tag.seen c.in-Record.tag = sym c.if-met.false ∙ c.met.ensures.1.0 in
     c.faulty-then-r-ne0-2.ensures ∙ refused c.args.s.now c.loop-tag.seen c.loop-tag.three c.loop-tag.one c.loop-tag.total c.loop-tag.single c.loop-tag.relay c.loop-tag.at c.loop-tag.invariant c.in-Record.tag c.in-Record.size c.in-Record.ensures short c.met.ensures.1.1 false c.low_record-r.result.number fresh (ap (λ (x : Low). x.number) c.low_record-r.ensures) c.if-r-ne0-2.true
 
 pub overflow_sub-total : goal.overflow_sub-total
-overflow_sub-total c =
-    let more : c.if-size-gt255.total ≡ c.loop-tag.total + further c.in-Record.size = elim c.if-size-gt255.branch [ then-size-gt255+else-size-gt1024 w ↦ w.total-is ∙ ap (λ (k : ℕ). c.loop-tag.total + k) w.further-total.ensures.0 | else-size-gt255 w ↦ w.total-is ∙ no_further _ _ w.if-size-gt255.false ] in
+overflow_sub-total c = let more : c.if-size-gt255.total ≡ c.loop-tag.total + further c.in-Record.size = elim c.if-size-gt255.branch [ then-size-gt255+else-size-gt1024 w ↦ w.total-is ∙ ap (λ (k : ℕ). c.loop-tag.total + k) w.further-total.ensures.0 | else-size-gt255 w ↦ w.total-is ∙ no_further _ _ w.if-size-gt255.false ] in
     omega (arith, room c.args.s.now c.loop-tag.seen c.loop-tag.three c.loop-tag.one (sums c.loop-tag.total c.loop-tag.single c.loop-tag.relay) c.loop-tag.at c.loop-tag.invariant c.in-Record.tag c.in-Record.size c.in-Record.ensures, c.loop-tag.invariant.least, more)
 
 pub overflow_add-at : goal.overflow_add-at
@@ -128,8 +124,7 @@ pub loop-tag-smaller : goal.loop-tag-smaller
 loop-tag-smaller c = omega (arith, room c.args.s.now c.loop-tag.seen c.loop-tag.three c.loop-tag.one (sums c.loop-tag.total c.loop-tag.single c.loop-tag.relay) c.loop-tag.at c.loop-tag.invariant c.in-Record.tag c.in-Record.size c.in-Record.ensures)
 
 pub loop-tag-preserved : goal.loop-tag-preserved
-loop-tag-preserved c =
-    let short : c.in-Record.size ≤ 1024 = elim c.if-size-gt255.branch [ then-size-gt255+else-size-gt1024 w ↦ w.if-size-gt1024.false | else-size-gt255 w ↦ omega (arith, w.if-size-gt255.false) ] in
+loop-tag-preserved c = let short : c.in-Record.size ≤ 1024 = elim c.if-size-gt255.branch [ then-size-gt255+else-size-gt1024 w ↦ w.if-size-gt1024.false | else-size-gt255 w ↦ omega (arith, w.if-size-gt255.false) ] in
     let fresh : false ≡ marked c.loop-tag.seen c.in-Record.tag = sym c.if-met.false ∙ c.met.ensures.1.0 in
     let more : c.if-size-gt255.total ≡ c.loop-tag.total + further c.in-Record.size = elim c.if-size-gt255.branch [ then-size-gt255+else-size-gt1024 w ↦ w.total-is ∙ ap (λ (k : ℕ). c.loop-tag.total + k) w.further-total.ensures.0 | else-size-gt255 w ↦ w.total-is ∙ no_further _ _ w.if-size-gt255.false ] in
     let single : c.if-size-gt255.single ≡ cond (ltb 255 c.in-Record.size) (lower c.loop-tag.at c.loop-tag.single) c.loop-tag.single = elim c.if-size-gt255.branch [ then-size-gt255+else-size-gt1024 w ↦ rw (lt-ltb 255 c.in-Record.size w.if-size-gt255.true) (w.single-is ∙ w.lower-single.ensures) | else-size-gt255 w ↦ rw (le-ltb 255 c.in-Record.size w.if-size-gt255.false) w.single-is ] in

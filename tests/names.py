@@ -14,7 +14,7 @@ from pathlib import Path
 ROOT = Path(__file__).resolve().parent.parent
 PAGES = ["docs/ARCHITECTURE.md", "docs/DECISIONS.md"]
 COMMENT = {".rt": r"//.*", ".antt": r"(^|\s)--\s.*", ".py": r"#.*", ".rs": r"//.*", ".c": r"/\*.*?\*/", ".h": r"/\*.*?\*/"}
-NOT_OURS = {"libc", "io"}  # libraries of the toolchain
+NOT_OURS = {"libc", "io", "std"}  # libraries of the toolchain
 NAME = r"[A-Za-z_][\w'-]*[\w']|[A-Za-z_]"
 
 

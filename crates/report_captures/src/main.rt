@@ -51,7 +51,8 @@ fn fill_once(
     total: u64,
     shown: bool,
 ) -> io::Result<Filling>
-    ensures { IfOk result (λ r. (r.size ≤ length part.new) × (r.total ≡ (total + r.size) % 2 ^ 64)) }
+    ensures ok { IfOk result (λ r. (r.size ≤ length part.new) × (r.total ≡ (total + r.size) % 2 ^ 64)) }
+    ensures err { OnErr result (length part.new ≡ length part.old) }
 {
     let mut input = from;
     let size = input.read(part)?;

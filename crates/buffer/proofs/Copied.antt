@@ -1,10 +1,10 @@
 -- For callers: what `copy` leaves of a buffer, and of the part of one that it is lent. Assumes nothing.
-use mathlib.Core.Path.{◌≡◌, ap, ◌∙◌}
-use mathlib.Core.List.{List, ◌++◌, append-nil}
+use mathlib.Core.Path.{◌≡◌, sym, ap, ap₂, ◌∙◌}
+use mathlib.Core.List.{List, ◌++◌, append-nil, append_assoc}
 use Prim.Native.Nat.{ℕ, ◌+◌, ◌-◌, ◌≤◌, ◌<◌}
 use native.Mathlib.Omega.{arith}
-use lib.ListN.{length, take, drop, length-drop}
-use lib.Seq.{take_all, drop-length, drop-drop}
+use lib.ListN.{length, take, drop, length-append, length-drop}
+use lib.Seq.{take_all, take_at, drop-append-add, drop-length, drop-drop}
 use borrow.Author.Tests.{le-leb, lt-leb}
 use borrow.Rule.Slice.PartMut.{put_mid, mid_of, Post-is}
 use Rattle.buffer.specs.Copy.{whole, copied}
@@ -35,3 +35,16 @@ put_copied a xs ys src h e =
     put_rest a xs ys (omega arith)
     ∙ ap (λ (l : List ℕ). take a xs ++ l)
     (e ∙ ap (λ (l : List ℕ). copied l src) (mid_rest a xs) ∙ copied_fits (drop a xs) src n ∙ ap (λ (l : List ℕ). src ++ l) (drop-drop (length src) a xs))
+
+-- the whole, after a head was put at its start and a body copied behind it
+pub put_both : (room head body x ys : List ℕ) (n : ℕ) → length head ≡ n → length body + n ≤ length room → x ≡ head ++ drop n room
+    → ys ≡ copied (mid_of n (length x - n) x) body → put_mid n (length x - n) x ys ≡ copied room (head ++ body)
+put_both room head body x ys n z h e f =
+    let b : ℕ = length body in
+    let l : length x ≡ n + (length room - n) = ap length e ∙ length-append head (drop n room) ∙ ap₂ (λ (j k : ℕ). j + k) z (length-drop n room) in
+    let k : n + b ≡ length (head ++ body) = omega (arith, length-append head body) in
+    put_copied n x ys body (omega arith) f
+    ∙ ap₂ (λ (p q : List ℕ). p ++ (body ++ q)) (ap (take n) e ∙ take_at head (drop n room) n z) (ap (drop (n + b)) e ∙ ap (λ (j : ℕ). drop (j + b) (head ++ drop n room)) (sym z) ∙ drop-append-add head (drop n room) b ∙ drop-drop b n room)
+    ∙ sym (append_assoc head body (drop (n + b) room))
+    ∙ ap (λ (j : ℕ). (head ++ body) ++ drop j room) k
+    ∙ sym (copied_fits room (head ++ body) (omega arith))

@@ -9,10 +9,9 @@ use message::part;
 use std::io;
 use std::io::{Stdin, Stdout};
 
-// A file while it is taken: whether there was a step, where reading is, and how many bytes a part has.
+// A file while it is taken: where reading is, and how many bytes a part has.
 #[derive(Clone, Copy)]
 struct Taken {
-    there: bool,
     progress: PlainProgress,
     part: usize,
 }
@@ -73,10 +72,8 @@ fn feed_times(
     sums: &mut [u64; 256],
 ) -> PlainProgress {
     let mut q = p;
-    let mut left = times;
-    while left > 0 {
+    for _ in 0..times {
         q = feed(given, size, q, kept, verdicts, held, sums);
-        left = left - 1;
     }
     q
 }
@@ -111,7 +108,6 @@ fn begun(
 ) -> Taken {
     let progress = dhcpopt_captures::dhcpopt_captures_begin(verdicts, held, sums);
     Taken {
-        there: true,
         progress,
         part: size,
     }
@@ -138,7 +134,6 @@ fn take(
     if call == 1 {
         let q = feed(given, size, p, kept, verdicts, held, sums);
         return Ok(Taken {
-            there: true,
             progress: q,
             part: size,
         });
@@ -146,7 +141,6 @@ fn take(
     if call == 2 {
         let q = feed_times(given, number, size, p, kept, verdicts, held, sums);
         return Ok(Taken {
-            there: true,
             progress: q,
             part: size,
         });
@@ -154,7 +148,6 @@ fn take(
     if call == 3 {
         let q = feed(rising, size, p, kept, verdicts, held, sums);
         return Ok(Taken {
-            there: true,
             progress: q,
             part: size,
         });
@@ -164,12 +157,12 @@ fn take(
 }
 
 // The next step: as a case without a name.
-fn next(from: Stdin, given: &mut [u8], rising: &mut [u8]) -> io::Result<Case> {
+fn next(from: Stdin, given: &mut [u8], rising: &mut [u8]) -> io::Result<Option<Case>> {
     let mut name = [0u8; 1];
     console::next(from, &mut name, given, rising)
 }
 
-// Reads a step and takes it; not there at the end of the input.
+// Reads a step and takes it; none at the end of the input.
 fn step(
     from: Stdin,
     to: Stdout,
@@ -180,17 +173,11 @@ fn step(
     verdicts: &mut [u64; 8],
     held: &mut [u64; 256],
     sums: &mut [u64; 256],
-) -> io::Result<Taken> {
-    let c = next(from, given, rising)?;
-    if !c.there {
-        let p = t.progress;
-        return Ok(Taken {
-            there: false,
-            progress: p,
-            part: t.part,
-        });
-    }
-    take(
+) -> io::Result<Option<Taken>> {
+    let Some(c) = next(from, given, rising)? else {
+        return Ok(None);
+    };
+    let taken = take(
         to,
         c.call,
         c.room,
@@ -201,7 +188,8 @@ fn step(
         verdicts,
         held,
         sums,
-    )
+    )?;
+    Ok(Some(taken))
 }
 
 // At most 5,000 steps are read.
@@ -216,13 +204,11 @@ fn run(
     sums: &mut [u64; 256],
 ) -> io::Result<()> {
     let mut t = begun(0, verdicts, held, sums);
-    let mut left: usize = 5000;
-    while left > 0 {
-        t = step(from, to, given, rising, t, kept, verdicts, held, sums)?;
-        if !t.there {
+    for _ in 0..5000 {
+        let Some(next) = step(from, to, given, rising, t, kept, verdicts, held, sums)? else {
             break;
-        }
-        left = left - 1;
+        };
+        t = next;
     }
     Ok(())
 }

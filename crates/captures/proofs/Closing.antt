@@ -1,13 +1,12 @@
 -- One message more: the numbers stand for the tally with it. Assumes nothing.
 use Rattle.std.proofs.Common.{◌≡◌, ℕ, zero, suc, ◌+◌, ◌%◌, ◌^◌, ◌<◌, ◌≤◌, List, [], ◌∷◌, length, get_or, take, sym, refl, ap, ◌∙◌, subst, ap₂, arith, ext_get_or, le-ltb, lt-ltb}
+use Rattle.std.specs.Prelude as code
 use mathlib.Core.Option.{Option, none, some}
 use native.Mathlib.Decide.{dec_lt}
 use Rattle.options.specs.Reading.{Reading, refused, read_message}
 use Rattle.options.specs.Captures.{if_accepted, if_refused_by, if_holds, joined_size, lease_time, widened, Lease, no_lease, leases, Tally, raised, noted_as, noted}
-use Rattle.tally.specs.declared.Time.{Time}
 use Rattle.tally.specs.Noted.{lease_in, time_in_value, widened_by, Raises, verdict_count, Notes, Lent}
-use Rattle.captures.specs.declared.Progress.{Progress}
-use Rattle.captures.specs.Standing.{wrap, wrapped, closed64, Holds, before_record, Small, Stands, behind_of, NotesKept, Closes}
+use Rattle.captures.specs.Standing.{Progress, wrap, wrapped, closed64, Holds, before_record, Small, Stands, behind_of, NotesKept, Closes}
 
 raised_length : (f : ℕ → ℕ) (c : ℕ) (xs : List ℕ) → length (raised f c xs) ≡ length xs
 unfolding raised
@@ -63,11 +62,12 @@ wrap_small xs i = omega (arith, wrap_at xs i)
 
 -- lease times that were given, with that of a message
 lease_more : (o : Option ℕ) (z : Lease) → widened_by (time_in_value o) (lease_in z) ≡ lease_in (widened o z)
-lease_more none z = refl
+lease_more none no_lease = refl
+lease_more none (leases s l) = refl
 lease_more (some n) no_lease = refl
 lease_more (some n) (leases s l) = refl
 
-module _ (i : ℕ) (kept : List ℕ) (x : Tally) (n : ℕ) (p : Progress) (v h b : List ℕ) (t : Time) (v' h' b' : List ℕ) where
+module _ (i : ℕ) (kept : List ℕ) (x : Tally) (n : ℕ) (p : Progress) (v h b : List ℕ) (t : code.Option ℕ) (v' h' b' : List ℕ) where
   holds_more : n ≡ length kept → Holds i x p v h b → Small v h b → Notes (read_message kept) v h b t v' h' b'
       → Holds ((i + 3 + length kept) % 2 ^ 64) (wrapped (noted kept x)) (behind_of p n t) v' h' b'
   unfolding noted_as wrapped
@@ -113,15 +113,15 @@ long_refused : (m : List ℕ) → 1472 < length m → read_message m ≡ refused
 unfolding read_message
 long_refused m h = rw (le-ltb (length m) 240 (omega arith), lt-ltb 1472 (length m) h)
 
-module _ (n : ℕ) (p : Progress) (message v h b : List ℕ) (t : Time) (v' h' b' : List ℕ) (k : NotesKept n message v h b t v' h' b') where
-  notes_kept : (kept : List ℕ) → n ≡ length kept → 1472 ≤ length message → (n ≤ length message → take n message ≡ kept) → Lent v h b → Notes (read_message kept) v h b t v' h' b'
-  notes_kept kept e room q l = by (dec_lt (length message) n)
+module _ (n : ℕ) (p : Progress) (message v h b : List ℕ) (t : code.Option ℕ) (v' h' b' : List ℕ) (k : NotesKept n message v h b t v' h' b') where
+  notes_kept : (kept : List ℕ) → n ≡ length kept → 1472 ≤ length message → (n ≤ length message → take n message ≡ kept) → Notes (read_message kept) v h b t v' h' b'
+  notes_kept kept e room q = by (dec_lt (length message) n)
     where
       by : Dec (length message < n) → Notes (read_message kept) v h b t v' h' b'
       by (yes z) = subst (λ (w : Reading). Notes w v h b t v' h' b') (sym (long_refused kept (omega arith))) (k.if_long z (length kept))
       by (no z) =
           let y : n ≤ length message = omega (arith, z) in
-          subst (λ (m : List ℕ). Notes (read_message m) v h b t v' h' b') (q y) ((k.if_kept y).if_lent l)
+          subst (λ (m : List ℕ). Notes (read_message m) v h b t v' h' b') (q y) (k.if_kept y)
 
   pub closes : Closes n p message v h b (behind_of p n t) v' h' b'
-  closes i kept x e room q s l w = closes_as i kept x n p v h b t v' h' b' message e room s l w (notes_kept kept e room q l)
+  closes i kept x e room q s l w = closes_as i kept x n p v h b t v' h' b' message e room s l w (notes_kept kept e room q)

@@ -1,9 +1,8 @@
 -- One run of bytes after another. Assumes nothing.
-use Rattle.std.proofs.Common.{◌≡◌, ℕ, zero, suc, ◌+◌, ◌-◌, ◌*◌, ◌<◌, ◌≤◌, min, Bool, true, false, cond, eqb, ltb, ◌⊎◌, List, [], ◌∷◌, ◌++◌, length, get_or, take, drop, sym, refl, ap, ◌∙◌, subst, inl, inr, arith, length-drop, length-take, length-take-le, take_all, ltb-true, eqb-true}
-use lib.Seq.{take-nil}
+use Rattle.std.proofs.Common.{◌≡◌, ℕ, zero, suc, ◌+◌, ◌-◌, ◌*◌, ◌<◌, ◌≤◌, min, Bool, true, false, cond, eqb, ltb, ◌⊎◌, List, [], ◌∷◌, ◌++◌, length, get_or, take, drop, sym, refl, ap, ◌∙◌, subst, inl, inr, arith, length-drop, length-take, length-take-le, take_all, append_assoc, append-nil, ltb-true, eqb-true}
+use Rattle.std.proofs.lemmas.List.{take-append-drop}
 use Rattle.options.specs.Captures.{most_messages}
-use Rattle.captures.specs.declared.Progress.{Progress}
-use Rattle.captures.specs.Standing.{tidied, Takes, Feeds, Whole, Fitting}
+use Rattle.captures.specs.Standing.{Progress, taken_value, tidied, Takes, Feeds, Whole, Fitting}
 use Rattle.captures.proofs.Stages.{takes_then, takes_none}
 
 one_byte : (xs : List ℕ) → length xs ≡ 1 → xs ≡ get_or xs 0 0 ∷ []
@@ -26,13 +25,13 @@ whole_record (x ∷ y ∷ z ∷ rest) (suc (suc (suc n))) k l t e h few =
     record { high = y; low = z; body = take n rest; is = ap (λ (c : ℕ). c ∷ y ∷ z ∷ take n rest) t; size = length-take-le n rest (omega arith) ∙ (omega arith); few = few }
 
 -- a tag that is taken
-pub taken_tag : (t m g : ℕ) → g ≡ cond (eqb t 1) (cond (ltb m most_messages) 1 3) 3 → g ≡ 1 → (t ≡ 1) × (m < 1000000)
-taken_tag t m g e q = by (eqb t 1) refl (ltb m most_messages) refl (sym e ∙ q)
+pub taken_tag : (t m : ℕ) → taken_value t m ≡ true → (t ≡ 1) × (m < 1000000)
+taken_tag t m q = by (eqb t 1) refl (ltb m most_messages) refl q
   where
-    by : (x : Bool) → eqb t 1 ≡ x → (y : Bool) → ltb m most_messages ≡ y → ◌≡◌ {A = ℕ} (cond x (cond y 1 3) 3) 1 → (t ≡ 1) × (m < 1000000)
+    by : (x : Bool) → eqb t 1 ≡ x → (y : Bool) → ltb m most_messages ≡ y → cond x y false ≡ true → (t ≡ 1) × (m < 1000000)
     by true u true v z = (eqb-true t 1 u, ltb-true m most_messages v)
-    by true u false v z = absurd (omega arith)
-    by false u y v z = absurd (omega arith)
+    by true u false v z = absurd (let y : ◌≡◌ {A = ℕ} 0 1 = cc in omega arith)
+    by false u y v z = absurd (let w : ◌≡◌ {A = ℕ} 0 1 = cc in omega arith)
 
 -- how many bytes are taken at once
 pub fits_message : (p : Progress) (rest : List ℕ) (n : ℕ) → p.read < p.size → n ≡ min (p.size - p.read) (length rest) → 0 < length rest → (n ≤ length rest) × Fitting p (take n rest)
@@ -51,16 +50,6 @@ fits_head p rest n l h z w =
     by k (inl e) = inl (k ∙ e)
     by k (inr e) = inr e
 
--- n bytes from i on, as a part
-pub fitting_part : (p : Progress) (n i : ℕ) (xs : List ℕ) → Fitting p (take n (take (length xs - i) (drop i xs))) → Fitting p (take (i + n - i) (drop i xs))
-fitting_part p n i xs f =
-    let e : i + n - i ≡ n = omega arith in
-    let l : take (length xs - i) (drop i xs) ≡ drop i xs = take_all (length xs - i) (drop i xs) (omega (arith, length-drop i xs)) in
-    rw e (rw l at f)
-
-pub fitting_some : {p : Progress} (rest : List ℕ) (n : ℕ) → Fitting p (take n rest) → 0 < n
-fitting_some rest n f = omega (arith, f.some, length-take n rest)
-
 -- one byte, or a record
 pub is_record : {p : Progress} {run : List ℕ} → Fitting p run → p.size ≤ p.read → 1 < length run → (p.stage ≡ 0) × Whole p.messages run
 is_record {p} {run} f l h = by (f.of_head l)
@@ -72,40 +61,30 @@ is_record {p} {run} f l h = by (f.of_head l)
 pub is_byte : {p : Progress} {run : List ℕ} → Fitting p run → p.size ≤ p.read → length run ≤ 1 → length run ≡ 1
 is_byte f l h = omega (arith, f.some, h)
 
--- the bytes up to e are those up to i and the run between
-take_run : (i e : ℕ) (xs : List ℕ) → i ≤ e → take e xs ≡ take i xs ++ take (e - i) (drop i xs)
-take_run zero e xs h = let z : e ≡ e - 0 = omega arith in ap (λ (k : ℕ). take k xs) z
-take_run (suc i) zero xs h = absurd (omega arith)
-take_run (suc i) (suc e) [] h = sym (take-nil {A = ℕ} (suc e - suc i))
-take_run (suc i) (suc e) (x ∷ xs) h = let z : e - i ≡ suc e - suc i = omega arith in ap (λ (l : List ℕ). x ∷ l) (take_run i e xs (omega arith) ∙ ap (λ (k : ℕ). take i xs ++ take k (drop i xs)) z)
+-- of the part the bytes before `rest` are taken
+pub record Feeding (part : List ℕ) (p : Progress) (m₀ v₀ h₀ b₀ : List ℕ) (q : Progress) (m v h b rest : List ℕ) : Type 0 where
+  pub done : List ℕ
+  pub is : part ≡ done ++ rest
+  pub taken : Takes done p m₀ v₀ h₀ b₀ q m v h b
 
--- the first i bytes of the part are taken
-pub record Feeding (part : List ℕ) (p : Progress) (m₀ v₀ h₀ b₀ : List ℕ) (q : Progress) (m v h b : List ℕ) (i : ℕ) : Type 0 where
-  pub at_in : i ≤ length part
-  pub message_long : length m ≡ length m₀
-  pub verdicts_long : length v ≡ length v₀
-  pub held_long : length h ≡ length h₀
-  pub bytes_long : length b ≡ length b₀
-  pub taken : Takes (take i part) p m₀ v₀ h₀ b₀ q m v h b
+pub feeding_first : (part : List ℕ) (p : Progress) (m v h b : List ℕ) → Feeding part p m v h b p m v h b part
+feeding_first part p m v h b = record { done = []; is = refl; taken = takes_none {p = p} {m = m} {v = v} {h = h} {b = b} }
 
-pub feeding_first : (part : List ℕ) (p : Progress) (m v h b : List ℕ) → Feeding part p m v h b p m v h b 0
-feeding_first part p m v h b =
-    record { at_in = omega arith; message_long = refl; verdicts_long = refl; held_long = refl; bytes_long = refl; taken = takes_none {p = p} {m = m} {v = v} {h = h} {b = b} }
-
-pub feeding_more : {part : List ℕ} {p : Progress} {m₀ v₀ h₀ b₀ : List ℕ} {q : Progress} {m v h b : List ℕ} {i : ℕ} → Feeding part p m₀ v₀ h₀ b₀ q m v h b i → (e : ℕ) → i ≤ e → e ≤ length part
-    → (r : Progress) (m' v' h' b' : List ℕ) → length m' ≡ length m → length v' ≡ length v → length h' ≡ length h → length b' ≡ length b
-    → Takes (take (e - i) (drop i part)) q m v h b r m' v' h' b' → Feeding part p m₀ v₀ h₀ b₀ r m' v' h' b' e
-feeding_more {part} {p} {m₀} {v₀} {h₀} {b₀} {q} {m} {v} {h} {b} {i} s e l k r m' v' h' b' am av ah ab t =
+pub feeding_more : {part : List ℕ} {p : Progress} {m₀ v₀ h₀ b₀ : List ℕ} {q : Progress} {m v h b rest : List ℕ} → Feeding part p m₀ v₀ h₀ b₀ q m v h b rest
+    → (n : ℕ) (r : Progress) (m' v' h' b' : List ℕ) → Takes (take n rest) q m v h b r m' v' h' b' → Feeding part p m₀ v₀ h₀ b₀ r m' v' h' b' (drop n rest)
+feeding_more {rest = rest} s n r m' v' h' b' t =
     record {
-      at_in = k;
-      message_long = am ∙ s.message_long;
-      verdicts_long = av ∙ s.verdicts_long;
-      held_long = ah ∙ s.held_long;
-      bytes_long = ab ∙ s.bytes_long;
-      taken = subst (λ (xs : List ℕ). Takes xs p m₀ v₀ h₀ b₀ r m' v' h' b') (sym (take_run i e part l)) (takes_then (take i part) (take (e - i) (drop i part)) s.taken t);
+      done = s.done ++ take n rest;
+      is = s.is ∙ ap (λ (xs : List ℕ). s.done ++ xs) (sym (take-append-drop n rest)) ∙ sym (append_assoc s.done (take n rest) (drop n rest));
+      taken = takes_then s.done (take n rest) s.taken t;
     }
 
-pub feeding_done : {part : List ℕ} {q₀ : Progress} {m₀ v₀ h₀ b₀ : List ℕ} {q : Progress} {m v h b : List ℕ} {i : ℕ} → Feeding part q₀ m₀ v₀ h₀ b₀ q m v h b i → length part ≤ i → (p : Progress)
+pub feeding_done : {part : List ℕ} {q₀ : Progress} {m₀ v₀ h₀ b₀ : List ℕ} {q : Progress} {m v h b rest : List ℕ} → Feeding part q₀ m₀ v₀ h₀ b₀ q m v h b rest → length rest ≡ 0 → (p : Progress)
     → q₀ ≡ tidied p → Feeds part p m₀ v₀ h₀ b₀ q m v h b
-feeding_done {part} {q₀} {m₀} {v₀} {h₀} {b₀} {q} {m} {v} {h} {b} {i} s l p e =
-    subst (λ (y : Progress). Takes part y m₀ v₀ h₀ b₀ q m v h b) e (subst (λ (xs : List ℕ). Takes xs q₀ m₀ v₀ h₀ b₀ q m v h b) (take_all i part l) s.taken)
+feeding_done {part} {q₀} {m₀} {v₀} {h₀} {b₀} {q} {m} {v} {h} {b} {rest} s l p e =
+    subst (λ (y : Progress). Takes part y m₀ v₀ h₀ b₀ q m v h b) e
+    (subst (λ (xs : List ℕ). Takes xs q₀ m₀ v₀ h₀ b₀ q m v h b) (sym (s.is ∙ ap (λ (xs : List ℕ). s.done ++ xs) (none rest l) ∙ append-nil s.done)) s.taken)
+  where
+    none : (xs : List ℕ) → length xs ≡ 0 → xs ≡ []
+    none [] e = refl
+    none (x ∷ xs) e = absurd (omega arith)

@@ -2,10 +2,9 @@
 use Rattle.std.proofs.Common.{◌≡◌, ℕ, zero, suc, ◌+◌, ◌-◌, ◌*◌, ◌<◌, ◌≤◌, Bool, true, false, cond, eqb, ltb, List, [], ◌∷◌, ◌++◌, length, take, drop, sym, refl, ap, ◌∙◌, subst, ap₂, append_assoc, append-nil, arith, length-append, take_all, lt-ltb}
 use Rattle.options.specs.Captures.{most_messages, Tally, Stage, at_tag, at_high, at_low, inside, stopped, Run}
 use Rattle.options.specs.Reading.{read_message}
-use Rattle.tally.specs.declared.Time.{Time}
-use Rattle.tally.specs.Noted.{Noted}
-use Rattle.captures.specs.declared.Progress.{Progress}
-use Rattle.captures.specs.Standing.{closed64, within64, step_in64, fed64, Holds, StageIs, before_record, after_tag, after_high, in_message, was_refused, Stands, Takes, behind_of, Closes, Whole, Keeps}
+use Rattle.std.specs.Prelude as code
+use Rattle.tally.specs.Noted.{Notes}
+use Rattle.captures.specs.Standing.{Progress, taken_value, closed64, within64, step_in64, fed64, Holds, StageIs, before_record, after_tag, after_high, in_message, was_refused, Stands, Takes, behind_of, Closes, Whole, Keeps}
 use Rattle.captures.proofs.Closing.{closes_as}
 
 -- ---- The running tally, over bytes
@@ -97,6 +96,9 @@ module _ {p : Progress} {message : List ℕ} where
 
 -- ---- One byte of a head
 
+clash : false ≡ true → ⊥
+clash e = let y : ◌≡◌ {A = ℕ} 0 1 = cc in omega arith
+
 abbrev pub at_stage_value : Progress → ℕ → ℕ → Progress
 at_stage_value p g h = record { began = p.began; stage = g; high = h; size = 0; read = 0; messages = p.messages; lease = p.lease }
 
@@ -112,22 +114,38 @@ in_holds n k s =
     record { began_is = s.began_is; messages_is = s.messages_is; lease_is = s.lease_is; verdicts_are = s.verdicts_are; held_are = s.held_are; bytes_are = s.bytes_are }
 
 module _ (c : ℕ) (p : Progress) (message v h b : List ℕ) where
-  tag_stands : {i : ℕ} {x : Tally} (s t : Bool) (g : ℕ) → g ≡ cond s (cond t 1 3) 3 → (z : Stands (at i at_tag x) p message v h b)
-      → Stands (at i (cond s (cond t at_high stopped) stopped) x) (at_stage_value p g 0) message v h b
-  tag_stands true true g e s = record { holds = at_holds g 0 s.holds; stage_is = after_tag e refl refl refl; room = s.room; lent = s.lent; small = s.small }
-  tag_stands true false g e s = record { holds = at_holds g 0 s.holds; stage_is = was_refused e refl refl refl; room = s.room; lent = s.lent; small = s.small }
-  tag_stands false t g e s = record { holds = at_holds g 0 s.holds; stage_is = was_refused e refl refl refl; room = s.room; lent = s.lent; small = s.small }
-
   -- as it is known to be
   at_stage_stands : {s : Run} (g : Stage) → s.stage ≡ g → Stands s p message v h b → Stands (at s.began g s.tally) p message v h b
   at_stage_stands g e s = record { holds = s.holds; stage_is = subst (StageIs p message) e s.stage_is; room = s.room; lent = s.lent; small = s.small }
 
-  pub takes_tag : p.stage ≡ 0 → p.size ≤ p.read → (g : ℕ) → g ≡ cond (eqb c 1) (cond (ltb p.messages most_messages) 1 3) 3
-      → Takes (c ∷ []) p message v h b (at_stage_value p g 0) message v h b
-  takes_tag e l g q s z =
-      let k = is_tag z.stage_is e l in
-      subst (λ (y : Run). Stands y (at_stage_value p g 0) message v h b) (sym (one_fed s c at_tag k))
-      (tag_stands (eqb c 1) (ltb s.tally.messages most_messages) g (q ∙ ap (λ (n : ℕ). cond (eqb c 1) (cond (ltb n most_messages) 1 3) 3) z.holds.messages_is) (at_stage_stands at_tag k z))
+  -- a tag, of a record that is taken or is not
+  tag_fed : p.stage ≡ 0 → p.size ≤ p.read → (s : Run) → Stands s p message v h b
+      → fed64 s (c ∷ []) ≡ at s.began (cond (eqb c 1) (cond (ltb p.messages most_messages) at_high stopped) stopped) s.tally
+  tag_fed e l s z =
+      one_fed s c at_tag (is_tag z.stage_is e l)
+      ∙ ap (λ (n : ℕ). at s.began (cond (eqb c 1) (cond (ltb n most_messages) at_high stopped) stopped) s.tally) (sym z.holds.messages_is)
+
+  stage_after : (t k : Bool) → cond t k false ≡ true → cond t (cond k at_high stopped) stopped ≡ at_high
+  stage_after true true e = refl
+  stage_after true false e = absurd (clash e)
+  stage_after false k e = absurd (clash e)
+
+  stops_after : (t k : Bool) → cond t k false ≡ false → cond t (cond k at_high stopped) stopped ≡ stopped
+  stops_after true true e = absurd (clash (sym e))
+  stops_after true false e = refl
+  stops_after false k e = refl
+
+  pub takes_tag : p.stage ≡ 0 → p.size ≤ p.read → taken_value c p.messages ≡ true → Takes (c ∷ []) p message v h b (at_stage_value p 1 0) message v h b
+  takes_tag e l q s z =
+      subst (λ (y : Run). Stands y (at_stage_value p 1 0) message v h b)
+      (sym (tag_fed e l s z ∙ ap (λ (g : Stage). at s.began g s.tally) (stage_after (eqb c 1) (ltb p.messages most_messages) q)))
+      (record { holds = at_holds 1 0 z.holds; stage_is = after_tag refl refl refl refl; room = z.room; lent = z.lent; small = z.small })
+
+  pub takes_other : p.stage ≡ 0 → p.size ≤ p.read → taken_value c p.messages ≡ false → Takes (c ∷ []) p message v h b (at_stage_value p 3 0) message v h b
+  takes_other e l q s z =
+      subst (λ (y : Run). Stands y (at_stage_value p 3 0) message v h b)
+      (sym (tag_fed e l s z ∙ ap (λ (g : Stage). at s.began g s.tally) (stops_after (eqb c 1) (ltb p.messages most_messages) q)))
+      (record { holds = at_holds 3 0 z.holds; stage_is = was_refused refl refl refl refl; room = z.room; lent = z.lent; small = z.small })
 
   pub takes_high : p.stage ≡ 1 → Takes (c ∷ []) p message v h b (at_stage_value p 2 c) message v h b
   takes_high e s z =
@@ -163,34 +181,37 @@ module _ (c : ℕ) (p : Progress) (message v h b : List ℕ) where
 inside_fed : (s : Run) (ys : List ℕ) (n : ℕ) (kept : List ℕ) → s.stage ≡ inside n kept → fed64 s ys ≡ fed64 (at s.began (inside n kept) s.tally) ys
 inside_fed s ys n kept e = ap (λ (g : Stage). fed64 (at s.began g s.tally) ys) e
 
-module _ (run : List ℕ) (p : Progress) (message v h b message' : List ℕ) (l : p.read < p.size) (k : Keeps p.size p.read run message message') where
-  -- the buffer begins with what was read
-  held_more : {g : Stage} (s : Inside p message g) → p.size ≤ length message' → take (p.read + length run) message' ≡ s.kept ++ run
-  held_more s q =
-      let z : p.size ≤ length message = omega (arith, k.same_length) in
-      k.kept z ∙ ap (λ (y : List ℕ). y ++ run) (ap (λ (j : ℕ). take j message) s.read_is ∙ s.held z)
+module _ (run : List ℕ) (p : Progress) (message v h b message' : List ℕ) (size read : ℕ) (a : p.size ≡ size) (d : p.read ≡ read) (l : read < size) (k : Keeps size read run message message') where
+  is_in : {g : Stage} → StageIs p message g → Inside p message g
+  is_in g = is_inside_lem g (omega (arith, a, d, l))
 
-  pub takes_some : p.read + length run < p.size → Takes run p message v h b (in_message_value p p.size (p.read + length run)) message' v h b
+  -- the buffer begins with what was read
+  held_more : {g : Stage} (s : Inside p message g) → size ≤ length message' → take (read + length run) message' ≡ s.kept ++ run
+  held_more s q =
+      let z : size ≤ length message = omega (arith, k.same_length) in
+      k.kept z ∙ ap (λ (y : List ℕ). y ++ run) (ap (λ (j : ℕ). take j message) (sym d ∙ s.read_is) ∙ s.held (omega (arith, z, a)))
+
+  pub takes_some : read + length run < size → Takes run p message v h b (in_message_value p size (read + length run)) message' v h b
   takes_some q s z =
-      let i = is_inside_lem z.stage_is l in
-      let n : length (i.kept ++ run) ≡ p.read + length run = length-append i.kept run ∙ (let y = i.read_is in omega arith) in
+      let i = is_in z.stage_is in
+      let n : length (i.kept ++ run) ≡ read + length run = length-append i.kept run ∙ (let y = i.read_is in omega (arith, d)) in
       let w : fed64 s run ≡ at s.began (inside (i.left - length run) (i.kept ++ run)) s.tally =
-      inside_fed s run i.left i.kept i.is ∙ inside_run run i.left i.kept s.began s.tally (omega (arith, i.size_is, i.read_is)) in
-      subst (λ (y : Run). Stands y (in_message_value p p.size (p.read + length run)) message' v h b) (sym w)
+      inside_fed s run i.left i.kept i.is ∙ inside_run run i.left i.kept s.began s.tally (omega (arith, i.size_is, i.read_is, a, d)) in
+      subst (λ (y : Run). Stands y (in_message_value p size (read + length run)) message' v h b) (sym w)
       (record {
-        holds = in_holds p.size (p.read + length run) z.holds;
-        stage_is = in_message refl refl (sym n) (omega (arith, n, i.size_is, i.read_is)) (λ y. ap (λ (j : ℕ). take j message') n ∙ held_more i y);
+        holds = in_holds size (read + length run) z.holds;
+        stage_is = in_message refl refl (sym n) (omega (arith, n, i.size_is, i.read_is, a, d)) (λ y. ap (λ (j : ℕ). take j message') n ∙ held_more i y);
         room = omega (arith, z.room, k.same_length);
         lent = z.lent;
         small = z.small;
       })
 
-  pub takes_last : p.read + length run ≡ p.size → (p' : Progress) (v' h' b' : List ℕ) → Closes p.size p message' v h b p' v' h' b' → Takes run p message v h b p' message' v' h' b'
+  pub takes_last : read + length run ≡ size → (p' : Progress) (v' h' b' : List ℕ) → Closes size p message' v h b p' v' h' b' → Takes run p message v h b p' message' v' h' b'
   takes_last q p' v' h' b' c s z =
-      let i = is_inside_lem z.stage_is l in
-      let n : length (i.kept ++ run) ≡ p.read + length run = length-append i.kept run ∙ (let y = i.read_is in omega arith) in
+      let i = is_in z.stage_is in
+      let n : length (i.kept ++ run) ≡ read + length run = length-append i.kept run ∙ (let y = i.read_is in omega (arith, d)) in
       let w : fed64 s run ≡ closed64 s.began (i.kept ++ run) s.tally =
-      inside_fed s run i.left i.kept i.is ∙ message_end run i.left i.kept s.began s.tally (omega (arith, i.size_is, i.read_is)) in
+      inside_fed s run i.left i.kept i.is ∙ message_end run i.left i.kept s.began s.tally (omega (arith, i.size_is, i.read_is, a, d)) in
       subst (λ (y : Run). Stands y p' message' v' h' b') (sym w)
       (c s.began (i.kept ++ run) s.tally (omega (arith, n)) (omega (arith, z.room, k.same_length)) (λ y. ap (λ (j : ℕ). take j message') (sym q) ∙ held_more i y) z.holds z.lent z.small)
 
@@ -213,11 +234,11 @@ record_fed s run k w g e =
     ∙ body_end (256 * w.high + w.low) w.body s.began s.tally w.size
 
 module _ (run : List ℕ) (p : Progress) (message v h b : List ℕ) (w : Whole p.messages run) where
-  pub takes_record : p.stage ≡ 0 → p.size ≤ p.read → (n : ℕ) → n ≡ length w.body → (t : Time) (v' h' b' : List ℕ) → Noted (read_message w.body) v h b t v' h' b'
+  pub takes_record : p.stage ≡ 0 → p.size ≤ p.read → (n : ℕ) → n ≡ length w.body → (t : code.Option ℕ) (v' h' b' : List ℕ) → Notes (read_message w.body) v h b t v' h' b'
       → Takes run p message v h b (behind_of p n t) message v' h' b'
   takes_record e l n q t v' h' b' o s z =
       subst (λ (y : Run). Stands y (behind_of p n t) message v' h' b') (sym (record_fed s run p.messages w (is_tag z.stage_is e l) z.holds.messages_is))
-      (closes_as s.began w.body s.tally n p v h b t v' h' b' message q z.room z.holds z.lent z.small (o.if_lent z.lent))
+      (closes_as s.began w.body s.tally n p v h b t v' h' b' message q z.room z.holds z.lent z.small o)
 
 -- ---- One run after another
 

@@ -7,9 +7,9 @@ use Rattle.options.specs.CaptureClaims.{NoneWraps}
 use Rattle.captures_theorems.proofs.Runs.{no_sum_wraps, fed_append}
 use Rattle.captures_theorems.proofs.Reports.{all_append}
 use Rattle.tally.specs.declared.Lease as coded
+use Rattle.std.specs.Prelude.{Option, Some, None}
 use Rattle.tally.specs.Noted.{lease_of, lease_in}
-use Rattle.captures.specs.declared.Progress.{Progress}
-use Rattle.captures.specs.Standing.{wrap, wrapped, within64, step_in64, fed64, NeverWraps, StageIs, before_record, after_tag, after_high, in_message, was_refused, Stands, Feeds, tidied, stage_numbered, kept_of, stage_of, EveryStateStands, StandingIsTidy}
+use Rattle.captures.specs.Standing.{Progress, wrap, wrapped, within64, step_in64, fed64, NeverWraps, StageIs, before_record, after_tag, after_high, in_message, was_refused, Stands, Feeds, tidied, stage_numbered, kept_of, stage_of, EveryStateStands, StandingIsTidy}
 
 -- ---- Any numbers
 
@@ -23,7 +23,7 @@ kept_length p message l = by (leb p.size (length message)) refl
 kept_held : (p : Progress) (message : List ℕ) → p.read < p.size → p.size ≤ length message → take (length (kept_of p message)) message ≡ kept_of p message
 kept_held p message l h = ap (λ (n : ℕ). take n message) (kept_length p message l) ∙ sym (rw (le-leb p.size (length message) h))
 
-numbered : (p : Progress) (message : List ℕ) (z : coded.Lease) (g h : ℕ)
+numbered : (p : Progress) (message : List ℕ) (z : Option coded.Lease) (g h : ℕ)
     → StageIs (record { began = p.began; stage = min g 3; high = cond (eqb g 2) h 0; size = 0; read = 0; messages = p.messages; lease = z }) message (stage_numbered g h)
 numbered p message z zero h = before_record refl refl refl refl
 numbered p message z (suc zero) h = after_tag refl refl refl refl
@@ -51,18 +51,11 @@ every_state_stands p message v h b room l k =
       small = k;
     }
 
-pub any_kept : (l : coded.Lease) → l.any ≡ true → l ≡ lease_in (lease_of l)
-any_kept l e =
-    ap (λ (b : Bool). record { any = b; smallest = l.smallest; largest = l.largest }) e ∙ sym (ap (λ (b : Bool). lease_in (cond b (leases l.smallest l.largest) no_lease)) e)
-
 -- ---- Numbers that stand for one are read as they are
 
-lease_same : (l : coded.Lease) (x : Lease) → l ≡ lease_in x → lease_in (lease_of l) ≡ l
-lease_same l x e = ap (λ (y : coded.Lease). lease_in (lease_of y)) e ∙ again x ∙ sym e
-  where
-    again : (y : Lease) → lease_in (lease_of (lease_in y)) ≡ lease_in y
-    again no_lease = refl
-    again (leases s k) = refl
+pub lease_same : (l : Option coded.Lease) → lease_in (lease_of l) ≡ l
+lease_same None = refl
+lease_same (Some l) = refl
 
 tidy_as : (p : Progress) (b : Bool) → ltb p.read p.size ≡ b → lease_in (lease_of p.lease) ≡ p.lease → cond b 0 (min p.stage 3) ≡ p.stage
     → cond b 0 (cond (eqb p.stage 2) p.high 0) ≡ p.high → cond b p.size 0 ≡ p.size → cond b p.read 0 ≡ p.read → tidied p ≡ p
@@ -80,7 +73,21 @@ tidy_stage p message (was_refused a u n k) z =
     tidy_as p false (le-ltb p.read p.size (omega arith)) z (omega (arith, a)) (rw (ne_eqb p.stage 2 (λ e. omega arith)) (sym u)) (sym n) (sym k)
 
 pub standing_is_tidy : StandingIsTidy
-standing_is_tidy s p message v h b z = tidy_stage p message z.stage_is (lease_same p.lease s.tally.lease z.holds.lease_is)
+standing_is_tidy s p message v h b z = tidy_stage p message z.stage_is (lease_same p.lease)
+
+high_again : (g h : ℕ) → cond (eqb (min g 3) 2) (cond (eqb g 2) h 0) 0 ≡ cond (eqb g 2) h 0
+high_again zero h = refl
+high_again (suc zero) h = refl
+high_again (suc (suc zero)) h = refl
+high_again (suc (suc (suc g))) h = rw (ne_eqb (suc (suc (suc g))) 2 (λ e. omega arith), ne_eqb (min (suc (suc (suc g))) 3) 2 (λ e. omega arith)) refl
+
+-- and so are those that were brought to this form
+pub tidied_again : (p : Progress) → tidied (tidied p) ≡ tidied p
+tidied_again p = by (ltb p.read p.size) refl
+  where
+    by : (b : Bool) → ltb p.read p.size ≡ b → tidied (tidied p) ≡ tidied p
+    by true e = tidy_as (tidied p) true (rw e e) (lease_same (tidied p).lease) (rw e refl) (rw e refl) (rw e refl) (rw e refl)
+    by false e = tidy_as (tidied p) false (rw e refl) (lease_same (tidied p).lease) (rw e (omega arith)) (rw e (high_again p.stage p.high)) (rw e refl) (rw e refl)
 
 -- ---- A file
 

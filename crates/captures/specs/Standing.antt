@@ -1,11 +1,53 @@
 -- WHERE READING IS, AS THE CODE HOLDS IT: which running tally its numbers stand for, whatever they are. The public contracts rest on this file. Assumes nothing.
 use Rattle.std.specs.Prelude.{◌≡◌, ℕ, zero, suc, ◌+◌, ◌-◌, ◌*◌, ◌%◌, ◌^◌, ◌<◌, ◌≤◌, min, Bool, false, cond, ◌⊎◌, List, [], ◌∷◌, ◌++◌, length, take, drop, replicate, ◌==◌, nat_le, nat_lt, slice_index}
 use Rattle.options.specs.KindClaims.{AllBytes}
-use Rattle.options.specs.Captures.{Tally, noted, noted_as, Stage, at_tag, at_high, at_low, inside, stopped, Run, begun, within, step_in, fed}
+use Rattle.options.specs.Captures.{most_messages, Tally, noted, noted_as, Stage, at_tag, at_high, at_low, inside, stopped, Run, begun, within, step_in, fed}
 use Rattle.options.specs.Reading.{read_message, refused}
-use Rattle.tally.specs.declared.Time.{Time}
-use Rattle.tally.specs.Noted.{lease_of, lease_in, widened_by, Lent, Notes, Noted}
-use Rattle.captures.specs.declared.Progress.{Progress}
+use Rattle.std.specs.Prelude.{Option, None}
+use Rattle.tally.specs.declared.Lease.{Lease}
+use Rattle.tally.specs.Noted.{lease_of, lease_in, widened_by, Lent, Notes}
+use Rattle.captures.specs.declared.Progress as coded
+use Rattle.captures.specs.declared.Stage as coded_stage
+use Rattle.captures.specs.declared.Stage.TheVariants.{Tag, High, Low, Message, Stopped}
+
+-- ---- Where reading is, in numbers
+
+-- the place of the record's first byte in the file; 0 before a record or in its message, 1 after its tag, 2 after its high length byte, 3 where a record was refused; that byte;
+-- the length of the message that is read, and how many of its bytes were. Then the messages that were seen, and their lease times
+pub record Progress : Type 0 where
+  pub began : ℕ
+  pub stage : ℕ
+  pub high : ℕ
+  pub size : ℕ
+  pub read : ℕ
+  pub messages : ℕ
+  pub lease : Option Lease
+
+-- the same as the code holds it: its stage, case by case
+pub record StageTold : Type 0 where
+  pub stage : ℕ
+  pub high : ℕ
+  pub size : ℕ
+  pub read : ℕ
+
+abbrev pub told_at : coded_stage.Stage → StageTold
+told_at Tag = record { stage = 0; high = 0; size = 0; read = 0 }
+told_at High = record { stage = 1; high = 0; size = 0; read = 0 }
+told_at (Low h) = record { stage = 2; high = h; size = 0; read = 0 }
+told_at (Message n k) = record { stage = 0; high = 0; size = n; read = k }
+told_at Stopped = record { stage = 3; high = 0; size = 0; read = 0 }
+
+abbrev pub told_by : coded.Progress → Progress
+told_by p =
+    record {
+      began = p.began;
+      stage = (told_at p.stage).stage;
+      high = (told_at p.stage).high;
+      size = (told_at p.stage).size;
+      read = (told_at p.stage).read;
+      messages = p.messages;
+      lease = p.lease;
+    }
 
 -- ---- [H4, H5] The running tally of any numbers: as `Captures.fed`, but that what a message adds is kept in 64 bits
 
@@ -90,7 +132,7 @@ pub record Stands (s : Run) (p : Progress) (message verdicts held bytes : List �
 abbrev pub is_inside : Progress → Bool
 is_inside p = nat_lt p.read p.size
 
--- as any Progress is read: `stage` above 3 as 3; `size` and `read` in a message alone, and there no `stage`; `high` after the high byte alone; no lease time without `any`
+-- as any Progress is read: `stage` above 3 as 3; `size` and `read` in a message alone, and there no `stage`; `high` after the high byte alone
 abbrev pub tidied : Progress → Progress
 tidied p =
     record {
@@ -147,15 +189,19 @@ Feeds part p message verdicts held bytes p' message' verdicts' held' bytes' = Ta
 
 -- [H5] "begun empty": this, with lent numbers that are zeros
 abbrev pub none_read : Progress
-none_read = record { began = 0; stage = 0; high = 0; size = 0; read = 0; messages = 0; lease = record { any = false; smallest = 0; largest = 0 } }
+none_read = record { began = 0; stage = 0; high = 0; size = 0; read = 0; messages = 0; lease = None }
 
 abbrev pub BegunEmpty : Type 0
 BegunEmpty = (message : List ℕ) → 1472 ≤ length message → Stands begun none_read message (replicate 8 0) (replicate 256 0) (replicate 256 0)
 
 -- ---- Internals
 
+-- a record with this tag is taken where so many messages were before
+abbrev pub taken_value : ℕ → ℕ → Bool
+taken_value tag n = cond (tag == 1) (nat_lt n most_messages) false
+
 -- what stands behind a message of n bytes, with this lease time: the next record begins there
-abbrev pub behind_of : Progress → ℕ → Time → Progress
+abbrev pub behind_of : Progress → ℕ → Option ℕ → Progress
 behind_of p n t =
     record {
       began = ((p.began + 3) % 2 ^ 64 + n) % 2 ^ 64;
@@ -168,8 +214,8 @@ behind_of p n t =
     }
 
 -- a message of n bytes is noted
-pub record NotesKept (n : ℕ) (message verdicts held bytes : List ℕ) (t : Time) (verdicts' held' bytes' : List ℕ) : Type 0 where
-  pub if_kept : n ≤ length message → Noted (read_message (take n message)) verdicts held bytes t verdicts' held' bytes'
+pub record NotesKept (n : ℕ) (message verdicts held bytes : List ℕ) (t : Option ℕ) (verdicts' held' bytes' : List ℕ) : Type 0 where
+  pub if_kept : n ≤ length message → Notes (read_message (take n message)) verdicts held bytes t verdicts' held' bytes'
   pub if_long : length message < n → (p : ℕ) → Notes (refused 2 p) verdicts held bytes t verdicts' held' bytes'
 
 -- a message of n bytes is closed

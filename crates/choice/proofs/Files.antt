@@ -11,7 +11,9 @@ use Rattle.buffer.proofs.Writing.{written_front}
 use Rattle.groups.specs.Parts.{outermost_size}
 use Rattle.groups.proofs.Files.{outer, behind_some, behind_none, check_long, check_none, check_group_lem}
 use Rattle.choice.specs.Parts.{Chose}
-use Rattle.choice.specs.declared.Outcome.TheVariants.{Laid, Refused}
+use Rattle.std.specs.Prelude.{Ok, Err}
+use Rattle.refusal.specs.declared.Refusal.{Refusal}
+use Rattle.refusal.specs.Refused.{number_of}
 
 module _ (f class old : List ℕ) where
   pub choice_refused : (n p : ℕ) → check f ≡ refused_with n p → choice f class old ≡ unfilled n p old
@@ -33,10 +35,10 @@ module _ (f class old : List ℕ) where
       abbrev group : Items
       group = group_of (body 4) 0 (drop 3 (take n f)) none
 
-      pub choice_bad : (k p : ℕ) → Chose group class sheet 0 bound (Refused k p) after → choice f class old ≡ unfilled k p old
-      choice_bad k p c = choice_refused k p (check_group_lem f l n e z ∙ ap (λ (v : Verdict). and_then v (fault_of (behind n (drop n f)))) c)
+      pub choice_bad : (r : Refusal) → Chose group class sheet 0 bound (Err r) after → choice f class old ≡ unfilled (number_of r.rule) r.place old
+      choice_bad r c = choice_refused (number_of r.rule) r.place (check_group_lem f l n e z ∙ ap (λ (v : Verdict). and_then v (fault_of (behind n (drop n f)))) c)
 
-      module _ (end : ℕ) (c : Chose group class sheet 0 bound (Laid end) after) where
+      module _ (end : ℕ) (c : Chose group class sheet 0 bound (Ok end) after) where
         then_behind : check f ≡ fault_of (behind n (drop n f))
         then_behind = check_group_lem f l n e z ∙ ap (λ (v : Verdict). and_then v (fault_of (behind n (drop n f)))) c.0
 

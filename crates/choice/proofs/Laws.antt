@@ -23,8 +23,9 @@ use Rattle.sheet.specs.declared.Step.TheVariants.{Record}
 use Rattle.groups.specs.Parts.{members_at_value, items_from}
 use Rattle.groups.proofs.Laws as groups
 use Rattle.choice.specs.Parts.{Chose, Item}
-use Rattle.choice.specs.declared.Outcome.{Outcome}
-use Rattle.choice.specs.declared.Outcome.TheVariants.{Laid, Refused}
+use Rattle.std.specs.Prelude.{Result, Ok, Err}
+use Rattle.refusal.specs.declared.Refusal.{Refusal}
+use Rattle.refusal.specs.Refused.{number_of}
 
 -- ---- An item without a fault, and what follows it
 
@@ -86,13 +87,13 @@ module _ (s : List ℕ) (at d tag size : ℕ) (e : Record tag size ≡ step_of (
     abbrev group : Items
     group = group_of (body d) at (drop (at + 3) (take (at + 3 + size) s)) none
 
-    pub group_laid : (end : ℕ) → Chose group class old o bound (Laid end) after → Item d class s at old o (at + 3 + size) end after
+    pub group_laid : (end : ℕ) → Chose group class old o bound (Ok end) after → Item d class s at old o (at + 3 + size) end after
     group_laid end k =
         let q : groups.item s at d tag size e ≡ group = groups.is_group s at d tag size e z in
         picked class old o end after (ap fault_of q ∙ k.0) (rw q k.1) (omega (arith, k.2, b))
 
-    pub group_bad : (n p : ℕ) → Chose group class old o bound (Refused n p) after → fault_of (items_from s d at) ≡ refused_with n p
-    group_bad n p k = faulty n p (ap fault_of (groups.is_group s at d tag size e z) ∙ k)
+    pub group_bad : (r : Refusal) → Chose group class old o bound (Err r) after → fault_of (items_from s d at) ≡ refused_with (number_of r.rule) r.place
+    group_bad r k = faulty (number_of r.rule) r.place (ap fault_of (groups.is_group s at d tag size e z) ∙ k)
 
 -- ---- The items of a group that is reached, one after the other
 
@@ -150,7 +151,7 @@ module _ {class s : List ℕ} {d at : ℕ} {old : List ℕ} {o : ℕ} {out : Lis
       let b : put_mid e (e + (j - i) - e) out ys ≡ laid out e (take (j - i) (drop i s)) = laid_copied out e (e + (j - i)) ys (take (j - i) (drop i s)) (omega (arith, size)) fits y in
       choosing_past p (ap length b ∙ laid_length out e (take (j - i) (drop i s)) (omega (arith, size, fits))) (record { next = omega (arith, size); buffer = b })
 
-  pub choosing_ends : records_from i 0 (drop i s) ≡ all_read → Chose (items_from s d at) class old o (length s) (Laid e) out
+  pub choosing_ends : records_from i 0 (drop i s) ≡ all_read → Chose (items_from s d at) class old o (length s) (Ok e) out
   unfolding members fault_of chosen
   choosing_ends z =
       let w : items_from s d i ≡ none = ap (members (body d)) z in (
@@ -165,7 +166,7 @@ module _ {class s : List ℕ} {d at : ℕ} {old : List ℕ} {o : ℕ} {out : Lis
 -- ---- A group
 
 -- the same outcome of the same items
-pub chose_as : {w v : Items} (class old : List ℕ) (o bound : ℕ) (x : Outcome) (after : List ℕ) → w ≡ v → Chose v class old o bound x after → Chose w class old o bound x after
+pub chose_as : {w v : Items} (class old : List ℕ) (o bound : ℕ) (x : Result ℕ Refusal) (after : List ℕ) → w ≡ v → Chose v class old o bound x after → Chose w class old o bound x after
 chose_as class old o bound x after e k = rw e k
 
 module _ (s class : List ℕ) (tag : ℕ) (deeper : Body) (m : ℕ) (e : m ≡ members_at_value s tag) (h : m ≡ 0 → ⊥) where
@@ -187,14 +188,14 @@ module _ (s class : List ℕ) (tag : ℕ) (deeper : Body) (m : ℕ) (e : m ≡ m
   unfolding chosen
   reached_chosen r = ap (chosen class) (groups.group_whole s tag deeper none m e h) ∙ rw r (append-nil (chosen class (deeper tag m (drop m s))))
 
-  pub group_entered : reached class name ≡ true → (old : List ℕ) (o bound : ℕ) (x : Outcome) (after : List ℕ)
+  pub group_entered : reached class name ≡ true → (old : List ℕ) (o bound : ℕ) (x : Result ℕ Refusal) (after : List ℕ)
       → Chose (deeper tag m (drop m s)) class old o bound x after → Chose whole class old o bound x after
-  group_entered r old o bound (Laid end) after k =
+  group_entered r old o bound (Ok end) after k =
       (groups.group_fault s tag deeper m e h ∙ k.0, written_as (ap record_bytes (sym (reached_chosen r))) k.1, k.2)
-  group_entered r old o bound (Refused n p) after k = groups.group_fault s tag deeper m e h ∙ k
+  group_entered r old o bound (Err x) after k = groups.group_fault s tag deeper m e h ∙ k
 
   -- one that is not reached gives nothing
-  pub group_passed_by : reached class name ≡ false → (old : List ℕ) (o bound : ℕ) → fault_of whole ≡ passed → o ≤ bound → Chose whole class old o bound (Laid o) old
+  pub group_passed_by : reached class name ≡ false → (old : List ℕ) (o bound : ℕ) → fault_of whole ≡ passed → o ≤ bound → Chose whole class old o bound (Ok o) old
   unfolding chosen record_bytes
   group_passed_by r old o bound fine l =
       let q : chosen class whole ≡ [] = ap (chosen class) (groups.group_whole s tag deeper none m e h) ∙ rw r in

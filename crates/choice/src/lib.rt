@@ -10,47 +10,26 @@ ghost use Rattle.filled.specs.Fill.{Fills};
 ghost use Rattle.groups.specs.Parts.{Stops};
 ghost use Rattle.choice.specs.Parts.{Chose, Picks};
 
-use filled::Given;
-use groups::Checked;
+use refusal::{Refusal, Rule};
 use sheet::Step;
 
-// Where the records chosen of a group end in the sheet, or its first fault.
+// An item that is passed: the place behind it, and where the records chosen end then.
 #[derive(Clone, Copy)]
-pub enum Outcome {
-    Laid(usize),
-    Refused { number: u32, place: usize },
-}
-
-// What a place in a group's body has: nothing more; an item, the place behind it, and where the records end then; the first fault of one.
-#[derive(Clone, Copy)]
-pub enum Picked {
-    End,
-    Next { at: usize, end: usize },
-    Bad { number: u32, place: usize },
+pub struct Passed {
+    pub at: usize,
+    pub end: usize,
 }
 
 // Whether a group is reached for a class.
 fn is_reached(class: &[u8], name: &[u8]) -> bool
     ensures { result ≡ reached class.now name.now }
 {
-    if name.len() == 0 {
-        return true;
-    }
-    if name.len() != class.len() {
-        return false;
-    }
-    let mut i: usize = 0;
-    while i < name.len() {
-        if name[i] != class[i] {
-            return false;
-        }
-        i = i + 1;
-    }
-    true
+    name.is_empty() || name == class
 }
 
-// The members of a group that is reached, from the place `at` on to the end of s; their records go into out from o on. Records that stand
-// one after the other are copied at once.
+// The members of a group that is reached, from the place `at` on to the end of s; their records go into out from o on, and the answer is where they end.
+// Records that stand one after the other are copied at once. `out` and o go as two: o is a place in the sheet that all groups lay into, and out's length
+// is not where it ends.
 #[cycle(choose_body_choose_group_choose_item)]
 fn choose_body(
     s: &[u8],
@@ -60,59 +39,54 @@ fn choose_body(
     depth: usize,
     out: &mut [u8],
     o: usize,
-) -> Outcome
+) -> Result<usize, Refusal>
     requires { (o ≤ at) × (at ≤ length s.now) × (length s.now ≤ length out.old) }
     ensures { Chose (body depth tag at (drop at s.now)) class.now out.old o (length s.now) result out.new }
 {
     if depth == 0 {
-        return Outcome::Refused {
-            number: 21,
-            place: tag,
-        };
+        return Err(Rule::TooDeep.at(tag));
     }
     let mut i = at;
     let mut e = o;
+    // A loop, since what is laid is the answer where no item is left.
     loop {
         let past = groups::past_records(s, i);
         let laid = e + (past - i);
         buffer::copy(&mut out[e..laid], &s[i..past]);
-        match choose_item(s, class, past, depth - 1, out, laid) {
-            Picked::End => return Outcome::Laid(laid),
-            Picked::Next { at, end } => {
+        match choose_item(s, class, past, depth - 1, out, laid)? {
+            None => return Ok(laid),
+            Some(Passed { at, end }) => {
                 i = at;
                 e = end;
             }
-            Picked::Bad { number, place } => return Outcome::Refused { number, place },
         }
     }
 }
 
-// The item at a place of a group's body where no record is to be passed: a tag other than 0 is a wrong one there.
+// The item at a place of a group's body where no record is to be passed; none where there is nothing more. A tag other than 0 is a wrong one there. As `groups::check_item`,
+// but that the group is entered with the buffer: a closure for that would make the recursion one over closures.
 #[cycle(choose_body_choose_group_choose_item)]
-fn choose_item(s: &[u8], class: &[u8], at: usize, depth: usize, out: &mut [u8], o: usize) -> Picked
+fn choose_item(
+    s: &[u8],
+    class: &[u8],
+    at: usize,
+    depth: usize,
+    out: &mut [u8],
+    o: usize,
+) -> Result<Option<Passed>, Refusal>
     requires { (o ≤ at) × (at ≤ length s.now) × (length s.now ≤ length out.old) × Stops s.now at }
     ensures { Picks depth class.now s.now at out.old o result out.new }
 {
     match sheet::next_record(s, at) {
-        Step::End => return Picked::End,
-        Step::Cut => {
-            return Picked::Bad {
-                number: 20,
-                place: at,
-            };
-        }
+        Step::End => Ok(None),
+        Step::Cut => Err(Rule::BadGroup.at(at)),
         Step::Record { tag, size } => {
             if tag != 0 {
-                return Picked::Bad {
-                    number: 10,
-                    place: at,
-                };
+                return Err(Rule::BadCode.at(at));
             }
             let next = at + 3 + size;
-            match choose_group(&s[..next], class, at, depth, out, o) {
-                Outcome::Laid(end) => return Picked::Next { at: next, end },
-                Outcome::Refused { number, place } => return Picked::Bad { number, place },
-            }
+            let end = choose_group(&s[..next], class, at, depth, out, o)?;
+            Ok(Some(Passed { at: next, end }))
         }
     }
 }
@@ -126,54 +100,34 @@ fn choose_group(
     depth: usize,
     out: &mut [u8],
     o: usize,
-) -> Outcome
+) -> Result<usize, Refusal>
     requires { (o ≤ tag) × (length s.now ≤ length out.old) }
     ensures { Chose (group_of (body depth) tag (drop (tag + 3) s.now) none) class.now out.old o (length s.now) result out.new }
 {
-    let at = groups::members_at(s, tag);
-    if at == 0 {
-        return Outcome::Refused {
-            number: 20,
-            place: tag,
-        };
-    }
+    let Some(at) = groups::members_at(s, tag) else {
+        return Err(Rule::BadGroup.at(tag));
+    };
     if is_reached(class, &s[tag + 4..at]) {
         return choose_body(s, class, at, tag, depth, out, o);
     }
-    match groups::check_group(s, tag, depth) {
-        Checked::Passed => Outcome::Laid(o),
-        Checked::Refused { number, place } => Outcome::Refused { number, place },
-    }
+    groups::check_group(s, tag, depth)?;
+    Ok(o)
 }
 
 // Chooses for a class: the records of the groups reached go to the front of the caller's buffer, and the answer is their number of bytes.
-pub fn choose(f: &[u8], class: &[u8], out: &mut [u8]) -> Given
+pub fn choose(f: &[u8], class: &[u8], out: &mut [u8]) -> Result<usize, Refusal>
     ensures { Fills (grouped.choice f.now class.now out.old) result out.new }
 {
     if 4100 < f.len() {
-        return Given::Refused {
-            number: 16,
-            place: f.len(),
-        };
+        return Err(Rule::SheetTooLong.at(f.len()));
     }
-    let n = groups::outermost(f);
-    if n == 0 {
-        return Given::Refused {
-            number: 20,
-            place: 0,
-        };
-    }
+    let Some(n) = groups::outermost(f) else {
+        return Err(Rule::BadGroup.at(0));
+    };
     let mut sheet = [0u8; 4100];
-    match choose_group(&f[..n], class, 0, 4, &mut sheet, 0) {
-        Outcome::Laid(end) => {
-            if n < f.len() {
-                return Given::Refused {
-                    number: 20,
-                    place: n,
-                };
-            }
-            return filled::give(&sheet[..end], out);
-        }
-        Outcome::Refused { number, place } => return Given::Refused { number, place },
+    let end = choose_group(&f[..n], class, 0, 4, &mut sheet, 0)?;
+    if n < f.len() {
+        return Err(Rule::BadGroup.at(n));
     }
+    filled::give(&sheet[..end], out)
 }

@@ -1,8 +1,8 @@
 -- The words that mark a list of codes. Assumes nothing.
-use mathlib.Core.Path.{◌≡◌, refl, sym, ap, ◌∙◌, subst}
-use mathlib.Core.Bool.{Bool, true, false}
+use mathlib.Core.Path.{◌≡◌, refl, ap, ◌∙◌}
+use mathlib.Core.Bool.{false}
 use mathlib.Core.List.{List, [], ◌∷◌}
-use Prim.Native.Nat.{ℕ, zero, suc, ◌+◌, ◌*◌, ◌/◌, ◌%◌, ◌^◌, ◌≤◌, ◌<◌}
+use Prim.Native.Nat.{ℕ, zero, suc, ◌/◌, ◌%◌, ◌^◌, ◌<◌}
 use native.Mathlib.Omega.{arith}
 use native.Mathlib.Decide.{ℕ_discrete}
 use lib.Dec.{eqb}
@@ -10,7 +10,7 @@ use lib.ListN.{length, get_or, length-set}
 use lib.Count.{ones}
 use native.Mathlib.Nat.{zero-div}
 use borrow.Author.Tests.{eq-eqb, ne_eqb}
-use Rattle.options.specs.CodeSet.{bit, marked, with_mark, count_of, lowest_of}
+use Rattle.options.specs.CodeSet.{marked, with_mark, count_of}
 use Rattle.options.specs.Reading.{either, among}
 use Rattle.codeset.specs.Codes.{Marks}
 use Rattle.codeset.proofs.Words.{mark_same, mark_other, mark_ones}

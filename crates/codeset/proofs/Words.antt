@@ -100,6 +100,14 @@ or_marked a k h = eq-eqb (bit a k) 1 (ap (λ (x : ℕ). bit x k) (sym h) ∙ or_
 pub or_unmarked : (a k : ℕ) → (bit_or a (2 ^ k) ≡ a → ⊥) → eqb (bit a k) 1 ≡ false
 or_unmarked a k h = ne_eqb (bit a k) 1 (λ e. h (or_already a k e))
 
+-- so the test whether the word is the same tells whether the digit was set
+pub or_tells : (a k : ℕ) → eqb (bit_or a (2 ^ k)) a ≡ eqb (bit a k) 1
+or_tells a k = by (dec_eq (bit_or a (2 ^ k)) a)
+  where
+    by : Dec (bit_or a (2 ^ k) ≡ a) → eqb (bit_or a (2 ^ k)) a ≡ eqb (bit a k) 1
+    by (yes p) = eq-eqb (bit_or a (2 ^ k)) a p ∙ sym (or_marked a k p)
+    by (no p) = ne_eqb (bit_or a (2 ^ k)) a p ∙ sym (or_unmarked a k p)
+
 -- the zeros below the lowest digit
 tz_zero : (k n : ℕ) → n % 2 ≡ 0 → count_trailing_zeros (suc k) n ≡ suc (count_trailing_zeros k (n / 2))
 unfolding count_trailing_zeros

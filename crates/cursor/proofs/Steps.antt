@@ -5,6 +5,7 @@ use mathlib.Core.List.{List, [], ◌∷◌, ◌++◌, append-nil}
 use Prim.Native.Nat.{ℕ, ◌+◌, ◌≤◌}
 use native.Mathlib.Omega.{arith}
 use lib.ListN.{length, take, drop}
+use Rattle.std.specs.Prelude.{Option, Some, None}
 use Rattle.options.specs.Message.{Field, options, file, sname, start, bytes, Rec, Opt, opt}
 use Rattle.options.specs.Reading.{Parse, ended, ran_out_value, beyond, found, items, overload}
 use Rattle.theorems.proofs.View.{clash}
@@ -19,8 +20,9 @@ use Rattle.message.specs.Active.{active_in, options_in, field_from, later_fields
 use Rattle.message.proofs.Names.{field_there}
 use Rattle.message.proofs.Callers.{options_all}
 use Rattle.cursor.specs.declared.Position.{Position}
-use Rattle.cursor.specs.declared.Step.TheVariants.{Item, Done}
-use Rattle.cursor.specs.Cursor.{first_position, after, left, step_of, Steps, no_more, one_more, StepsGiveTheOptions}
+use Rattle.cursor.specs.declared.Item.{Item}
+use Rattle.cursor.specs.declared.Options as iterator
+use Rattle.cursor.specs.Cursor.{first_position, after, left, step_of, Step, Steps, no_more, one_more, StepsGiveTheOptions}
 
 -- ---- the first of the options that are left, and those after it
 
@@ -46,7 +48,7 @@ first_of fd f i o os e = go (rest f i) refl e
     go (ran_out_value j) r q = clash (cc)
     go (beyond j) r q = clash (cc)
     go (found j x p) r q =
-        let a = item_ahead f i j x.tag (length x.body) (ap next_of r) in
+        let a = item_ahead f i (record { offset = j; code = x.tag; len = length x.body }) (ap next_of r) in
         let w : found j x p ≡ found j (item_at x.tag (length x.body) f j) (rest f (j + 2 + length x.body)) = sym r ∙ a.is in
         let b : x ≡ item_at x.tag (length x.body) f j = cc in
         let t : p ≡ rest f (j + 2 + length x.body) = cc in
@@ -114,33 +116,33 @@ module _ (v : ℕ) (m : List ℕ) where
   -- ---- for callers
 
   module _ (p : Position) where
-    pub none_left : Done ≡ step_of (left v m p) → left v m p ≡ []
+    pub none_left : None ≡ step_of (left v m p) → left v m p ≡ []
     none_left e = go (left v m p) e
       where
-        go : (os : List Opt) → Done ≡ step_of os → os ≡ []
+        go : (os : List Opt) → None ≡ step_of os → os ≡ []
         go [] q = refl
         go (o ∷ os) q = clash (cc)
 
     -- the option of a step: it is of the message's own bytes, and the others are left from the position after it
-    pub record Next (fd : coded.Field) (j c n : ℕ) : Type 0 where
+    pub record Next (x : Item) : Type 0 where
       pub body : List ℕ
-      pub size : length body ≡ n
-      pub within : start (field_of fd) + j + 2 + n ≤ length m
-      pub own : body ≡ take n (drop (start (field_of fd) + j + 2) m)
-      pub is : left v m p ≡ opt (field_of fd) j c body ∷ left v m (after fd j n)
+      pub size : length body ≡ x.len
+      pub within : start (field_of x.field) + x.offset + 2 + x.len ≤ length m
+      pub own : body ≡ take x.len (drop (start (field_of x.field) + x.offset + 2) m)
+      pub is : left v m p ≡ opt (field_of x.field) x.offset x.code body ∷ left v m (after x.field x.offset x.len)
 
-    pub next : (fd : coded.Field) (j c n : ℕ) → Item fd j c n ≡ step_of (left v m p) → Next fd j c n
-    next fd j c n e = go (left v m p) refl e
+    pub next : (x : Item) → Some x ≡ step_of (left v m p) → Next x
+    next x e = go (left v m p) refl e
       where
-        go : (os : List Opt) → left v m p ≡ os → Item fd j c n ≡ step_of os → Next fd j c n
+        go : (os : List Opt) → left v m p ≡ os → Some x ≡ step_of os → Next x
         go [] h q = clash (cc)
         go (o ∷ os) h q =
             let b = before (field_of p.field) p.offset o os h in
-            let w : fd ≡ coded_field o.field = cc in
-            let f : o.field ≡ field_of fd = sym (field_there o.field) ∙ ap field_of (sym w) in
-            let y : o.offset ≡ j = cc in
-            let t : o.item.tag ≡ c = cc in
-            let l : length o.item.body ≡ n = cc in
+            let w : x ≡ record { field = coded_field o.field; offset = o.offset; code = o.item.tag; len = length o.item.body } = cc in
+            let f : o.field ≡ field_of x.field = sym (field_there o.field) ∙ ap (λ (y : Item). field_of y.field) (sym w) in
+            let y : o.offset ≡ x.offset = sym (ap (λ (z : Item). z.offset) w) in
+            let t : o.item.tag ≡ x.code = sym (ap (λ (z : Item). z.code) w) in
+            let l : length o.item.body ≡ x.len = sym (ap (λ (z : Item). z.len) w) in
             record {
               body = o.item.body;
               size = l;
@@ -148,8 +150,32 @@ module _ (v : ℕ) (m : List ℕ) where
               own = rw (f, y, l) at (in_own o b);
               is =
                   h
-                  ∙ ap₂ (λ (x : Opt) (r : List Opt). x ∷ r) (opt_is o (field_of fd) j c f y t) (b.then ∙ ap₂ (λ (g : Field) (x : ℕ). options_from v m g x) f (ap₂ (λ (x k : ℕ). x + 2 + k) y l));
+                  ∙ ap₂ (λ (x : Opt) (r : List Opt). x ∷ r) (opt_is o (field_of x.field) x.offset x.code f y t) (b.then ∙ ap₂ (λ (g : Field) (x : ℕ). options_from v m g x) f (ap₂ (λ (x k : ℕ). x + 2 + k) y l));
             }
+
+-- ---- the iterator, in a loop
+
+-- it goes over the message m, whose option 52 has the value v
+pub record Over (v : ℕ) (m : List ℕ) (s : iterator.Options) : Type 0 where
+  pub value : s.over ≡ v
+  pub message : s.m.now ≡ m
+
+module _ {v : ℕ} {m : List ℕ} {s t : iterator.Options} (o : Over v m s) where
+  pub over_still : {r : Option Item} → Step s r t → Over v m t
+  over_still h = record {
+    value = ap (λ (x : iterator.Options). x.over) h.then ∙ o.value;
+    message = ap (λ (x : iterator.Options). x.m.now) h.then ∙ o.message;
+  }
+
+  pub over_done : Step s None t → left v m s.at ≡ []
+  over_done h = none_left v m s.at (rw (o.value, o.message) at h.gives)
+
+  -- the option that it gives, and those after it
+  pub over_next : {x : Item} → Step s (Some x) t → Next v m s.at x
+  over_next {x} h = next v m s.at x (rw (o.value, o.message) at h.gives)
+
+pub over_moved : {s t : iterator.Options} {x : Item} → Step s (Some x) t → after x.field x.offset x.len ≡ t.at
+over_moved h = sym (ap (λ (x : iterator.Options). x.at) h.then)
 
 -- ---- all of an accepted message
 
@@ -157,7 +183,7 @@ steps : (v : ℕ) (m : List ℕ) (p : Position) (os : List Opt) → left v m p �
 steps v m p [] e = no_more (ap step_of e)
 steps v m p (o ∷ os) e =
     let fd : coded.Field = coded_field o.field in
-    let x = next v m p fd o.offset o.item.tag (length o.item.body) (ap step_of (sym e)) in
+    let x = next v m p (record { field = fd; offset = o.offset; code = o.item.tag; len = length o.item.body }) (ap step_of (sym e)) in
     let t : left v m (after fd o.offset (length o.item.body)) ≡ os = cc in
     subst (λ (f : Field). Steps v m p (opt f o.offset o.item.tag o.item.body ∷ os)) (field_there o.field)
     (one_more (ap step_of e) refl (steps v m (after fd o.offset (length o.item.body)) os t))

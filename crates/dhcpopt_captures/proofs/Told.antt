@@ -23,15 +23,15 @@ use Rattle.captures_theorems.proofs.Tallies.{tally_is, tally_is_correct}
 use Rattle.captures_theorems.proofs.Reports.{report_is_correct}
 use Rattle.tally.specs.declared.Lease as coded
 use Rattle.tally.specs.Noted.{lease_in}
-use Rattle.captures.specs.declared.Progress.{Progress}
+use Rattle.std.specs.Prelude as code
 use Rattle.captures.specs.Standing as standing
-use Rattle.captures.specs.Standing.{StageIs, Small, Stands, none_read}
+use Rattle.captures.specs.Standing.{Progress, StageIs, Small, Stands, none_read}
 use Rattle.captures.proofs.Beginning.{begun_empty}
 use Rattle.captures.proofs.States.{standing_is_tidy, fed_more}
 use Rattle.report.specs.Printed.{Reports}
 use Rattle.report.proofs.Whole.{file_is_reported}
 use Rattle.dhcpopt_captures.specs.declared.PlainProgress.{PlainProgress}
-use Rattle.dhcpopt_captures.specs.Plain.{progress_of_value, plain_of, BeginsWith}
+use Rattle.dhcpopt_captures.specs.Plain.{progress_of_value, leases_of, smallest_of, largest_of, plain_of, BeginsWith}
 use Rattle.dhcpopt_captures.specs.Told.{RecordsTo, arrived, and_on, PlaceTold, before_record, after_tag, after_high, in_message, refused, LeaseTold, none_told, both_told, ToldOf, After, BegunForC, FedForC, ProgressByCase, ProgressByCaseBoth, Says24, CapturesRefusedForC, CapturesReportedForC}
 
 abbrev at : ℕ → Stage → Tally → Run
@@ -179,11 +179,11 @@ whole f all = reached all (captures f) (tally_of []) none_seen
 
 -- ---- The struct
 
-lease_told : (r : PlainProgress) (y : Lease) → (progress_of_value r).lease ≡ lease_in y → r.leases ≡ cond (progress_of_value r).lease.any 1 0 → LeaseTold r y
+lease_told : (r : PlainProgress) (y : Lease) → (progress_of_value r).lease ≡ lease_in y → r ≡ plain_of (progress_of_value r) → LeaseTold r y
 lease_told r no_lease e k =
-    none_told (k ∙ ap (λ (l : coded.Lease). cond l.any 1 0) e) (ap (λ (l : coded.Lease). l.smallest) e) (ap (λ (l : coded.Lease). l.largest) e)
+    none_told (ap (λ (q : PlainProgress). q.leases) k ∙ ap leases_of e) (ap (λ (q : PlainProgress). q.smallest) k ∙ ap smallest_of e) (ap (λ (q : PlainProgress). q.largest) k ∙ ap largest_of e)
 lease_told r (leases s l) e k =
-    both_told (k ∙ ap (λ (l : coded.Lease). cond l.any 1 0) e) (ap (λ (l : coded.Lease). l.smallest) e) (ap (λ (l : coded.Lease). l.largest) e)
+    both_told (ap (λ (q : PlainProgress). q.leases) k ∙ ap leases_of e) (ap (λ (q : PlainProgress). q.smallest) k ∙ ap smallest_of e) (ap (λ (q : PlainProgress). q.largest) k ∙ ap largest_of e)
 
 place_told : (f : List ℕ) (n : ℕ) (message : List ℕ) (r : PlainProgress) {g : Stage} → StageIs (progress_of_value r) message g → StageAt f n r.began g → PlaceTold f n message r
 place_told f n message r (standing.before_record a u s k) p = before_record p a u s k
@@ -210,7 +210,7 @@ told f r message v h b all x =
       verdicts_are = k.verdicts_are ∙ ap (λ (y : Tally). y.accepts ∷ y.refusals) e;
       held_are = k.held_are ∙ ap (λ (y : Tally). y.held) e;
       bytes_are = k.bytes_are ∙ ap (λ (y : Tally). y.bytes) e;
-      lease_is = lease_told r (tally_of z.seen).lease (k.lease_is ∙ ap (λ (y : Tally). lease_in y.lease) e) (ap (λ (y : PlainProgress). y.leases) x.plain);
+      lease_is = lease_told r (tally_of z.seen).lease (k.lease_is ∙ ap (λ (y : Tally). lease_in y.lease) e) x.plain;
       place_is = place_told f (length z.seen) message r x.stands.stage_is (subst (λ (j : ℕ). StageAt f (length z.seen) j (fed begun f).stage) (sym k.began_is) g);
     }
 
@@ -252,13 +252,27 @@ place_run f message r x (in_message {h = h} {l = l} {kept = kept} a e g u s k b 
 place_run f message r x (refused {c = c} {rest = rest} e w a u s k) =
     record { stage = stopped; is = ap (fed (at r.began at_tag x)) e ∙ stop_run c rest r.began x w; stage_is = standing.was_refused a u s k }
 
-lease_back : (r : PlainProgress) {y : Lease} → LeaseTold r y → ((progress_of_value r).lease ≡ lease_in y) × (r.leases ≡ cond (progress_of_value r).lease.any 1 0)
-lease_back r (none_told a s l) = rw (a, s, l) (refl, refl)
-lease_back r (both_told a s l) = rw (a, s, l) (refl, refl)
+abbrev with_leases : PlainProgress → ℕ → ℕ → ℕ → PlainProgress
+with_leases r n s l = record { began = r.began; messages = r.messages; size = r.size; read = r.read; stage = r.stage; leases = n; smallest = s; largest = l; high = r.high }
 
-abbrev with_leases : PlainProgress → ℕ → PlainProgress
-with_leases r n =
-    record { began = r.began; messages = r.messages; size = r.size; read = r.read; stage = r.stage; leases = n; smallest = r.smallest; largest = r.largest; high = r.high }
+lease_back : (r : PlainProgress) {y : Lease} → LeaseTold r y → ((progress_of_value r).lease ≡ lease_in y) × (r ≡ plain_of (progress_of_value r))
+lease_back r {y} t = (by t, plain t)
+  where
+    by : {y : Lease} → LeaseTold r y → (progress_of_value r).lease ≡ lease_in y
+    by (none_told a s l) = rw a refl
+    by (both_told a s l) = rw (a, s, l) refl
+
+    members : (x : code.Option coded.Lease) → r.leases ≡ leases_of x → r.smallest ≡ smallest_of x → r.largest ≡ largest_of x → r ≡ with_leases r (leases_of x) (smallest_of x) (largest_of x)
+    members x a s l =
+        ap (λ (n : ℕ). with_leases r n r.smallest r.largest) a ∙ ap (λ (n : ℕ). with_leases r (leases_of x) n r.largest) s ∙ ap (λ (n : ℕ). with_leases r (leases_of x) (smallest_of x) n) l
+
+    plain : {y : Lease} → LeaseTold r y → r ≡ plain_of (progress_of_value r)
+    plain (none_told a s l) =
+        let e = by (none_told a s l) in
+        members (progress_of_value r).lease (a ∙ sym (ap leases_of e)) (s ∙ sym (ap smallest_of e)) (l ∙ sym (ap largest_of e))
+    plain (both_told a s l) =
+        let e = by (both_told a s l) in
+        members (progress_of_value r).lease (a ∙ sym (ap leases_of e)) (s ∙ sym (ap smallest_of e)) (l ∙ sym (ap largest_of e))
 
 small_run : (s : Run) → NoneWraps s → Small (s.tally.accepts ∷ s.tally.refusals) s.tally.held s.tally.bytes
 small_run s w = record { verdicts_small = by; held_small = λ i. omega (arith, w.held i); bytes_small = λ i. omega (arith, w.bytes i) }
@@ -283,7 +297,7 @@ after_told f r message v h b all room t =
             lent = record { eight = ap length t.verdicts_are ∙ ap suc t.tally_is.seven; held_all = ap length t.held_are ∙ t.tally_is.held_all; bytes_all = ap length t.bytes_are ∙ t.tally_is.bytes_all };
             small = rw (t.verdicts_are, t.held_are, t.bytes_are) (small_run (at r.began p.stage t.tally) (subst NoneWraps is (no_sum_wraps f all)));
           });
-      plain = ap (with_leases r) l.1;
+      plain = l.1;
     }
 
 pub progress_by_case : ProgressByCase

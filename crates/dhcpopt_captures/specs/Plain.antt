@@ -1,7 +1,7 @@
 -- WHERE READING IS, AS C HOLDS IT: its struct, member by member. What each member says of the file is told in Told. Assumes nothing.
-use Rattle.std.specs.Prelude.{◌≡◌, cond, not, List, ℕ, eqb, replicate}
-use Rattle.captures.specs.declared.Progress.{Progress}
-use Rattle.captures.specs.Standing.{Feeds}
+use Rattle.std.specs.Prelude.{◌≡◌, cond, List, ℕ, eqb, replicate, Option, Some, None}
+use Rattle.tally.specs.declared.Lease.{Lease}
+use Rattle.captures.specs.Standing.{Progress, Feeds}
 use Rattle.dhcpopt_captures.specs.declared.PlainProgress.{PlainProgress}
 
 -- as any struct is taken: any number but 0 in `leases` says that there is a lease time
@@ -14,10 +14,22 @@ progress_of_value p =
       size = p.size;
       read = p.read;
       messages = p.messages;
-      lease = record { any = not (eqb p.leases 0); smallest = p.smallest; largest = p.largest };
+      lease = cond (eqb p.leases 0) None (Some (record { smallest = p.smallest; largest = p.largest }));
     }
 
--- and as it is given: `leases` is 0 or 1
+-- and as it is given: `leases` is 0 or 1, and with 0 so are both times
+abbrev pub leases_of : Option Lease → ℕ
+leases_of None = 0
+leases_of (Some l) = 1
+
+abbrev pub smallest_of : Option Lease → ℕ
+smallest_of None = 0
+smallest_of (Some l) = l.smallest
+
+abbrev pub largest_of : Option Lease → ℕ
+largest_of None = 0
+largest_of (Some l) = l.largest
+
 abbrev pub plain_of : Progress → PlainProgress
 plain_of p =
     record {
@@ -26,9 +38,9 @@ plain_of p =
       size = p.size;
       read = p.read;
       stage = p.stage;
-      leases = cond p.lease.any 1 0;
-      smallest = p.lease.smallest;
-      largest = p.lease.largest;
+      leases = leases_of p.lease;
+      smallest = smallest_of p.lease;
+      largest = largest_of p.lease;
       high = p.high;
     }
 

@@ -2,14 +2,16 @@
 #![tactic(auto)]
 
 ghost use Rattle.std.specs.Prelude.{◌≡◌, ◌≤◌, length};
+ghost use Rattle.captures.specs.Standing.{told_by, tidied};
 ghost use Rattle.report.specs.Printed.{Reports};
 ghost use Rattle.dhcpopt_captures.specs.Plain.{progress_of_value, plain_of, BeginsWith, FeedsPlain};
 ghost use Rattle.dhcpopt_captures.specs.Told.{BegunForC, FedForC, ProgressByCase, ProgressByCaseBoth, CapturesRefusedForC, CapturesReportedForC};
 
-use captures::Progress;
-use tally::Lease;
+use captures::{Progress, Stage};
+use tally::{Lease, Tally};
 
-// captures::Progress with its lease times. leases: 1 where there are any, else 0.
+// captures::Progress in numbers. stage: 0 before a record's tag or in its message, of which `read` of `size` bytes were read; 1 before its high length byte; 2 before
+// its low one, and then high is the high one; 3 behind a record that was refused. leases: 1 where there are lease times, else 0. Any numbers may be lent.
 #[repr(C)]
 #[derive(Clone, Copy)]
 pub struct PlainProgress {
@@ -24,48 +26,67 @@ pub struct PlainProgress {
     pub high: u8,
 }
 
-fn progress_of(p: PlainProgress) -> Progress
-    ensures { result ≡ progress_of_value p }
-{
-    Progress {
-        began: p.began,
-        stage: p.stage,
-        high: p.high,
-        size: p.size,
-        read: p.read,
-        messages: p.messages,
-        lease: Lease {
-            any: p.leases != 0,
-            smallest: p.smallest,
-            largest: p.largest,
-        },
+impl From<PlainProgress> for Progress {
+    ghost from_gives = { λ p q. told_by q ≡ tidied (progress_of_value p) };
+
+    fn from(p: PlainProgress) -> Progress {
+        let stage = if p.read < p.size {
+            Stage::Message {
+                size: p.size,
+                read: p.read,
+            }
+        } else {
+            match p.stage {
+                0 => Stage::Tag,
+                1 => Stage::High,
+                2 => Stage::Low { high: p.high },
+                _ => Stage::Stopped,
+            }
+        };
+        let lease = if p.leases == 0 {
+            None
+        } else {
+            Some(Lease {
+                smallest: p.smallest,
+                largest: p.largest,
+            })
+        };
+        Progress {
+            began: p.began,
+            stage,
+            messages: p.messages,
+            lease,
+        }
     }
 }
 
-fn plain_with(p: Progress, l: Lease, leases: u32) -> PlainProgress
-    ensures { result ≡ record { began = p.began; messages = p.messages; size = p.size; read = p.read; stage = p.stage; leases = leases; smallest = l.smallest; largest = l.largest; high = p.high } }
-{
-    PlainProgress {
-        began: p.began,
-        messages: p.messages,
-        size: p.size,
-        read: p.read,
-        stage: p.stage,
-        leases,
-        smallest: l.smallest,
-        largest: l.largest,
-        high: p.high,
-    }
-}
+impl From<Progress> for PlainProgress {
+    ghost from_gives = { λ q p. p ≡ plain_of (told_by q) };
 
-fn plain(p: Progress) -> PlainProgress
-    ensures { result ≡ plain_of p }
-{
-    let l = p.lease;
-    if l.any {
-        return plain_with(p, l, 1);
+    fn from(q: Progress) -> PlainProgress {
+        let (stage, high, size, read) = match q.stage {
+            Stage::Tag => (0, 0, 0, 0),
+            Stage::High => (1, 0, 0, 0),
+            Stage::Low { high } => (2, high, 0, 0),
+            Stage::Message { size, read } => (0, 0, size, read),
+            Stage::Stopped => (3, 0, 0, 0),
+        };
+        let (leases, smallest, largest) = match q.lease {
+            Some(l) => (1, l.smallest, l.largest),
+            None => (0, 0, 0),
+        };
+        PlainProgress {
+            began: q.began,
+            messages: q.messages,
+            size,
+            read,
+            stage,
+            leases,
+            smallest,
+            largest,
+            high,
+        }
     }
-    plain_with(p, l, 0)
 }
 
 // What the calls' contracts come to, in the numbers of a file.
@@ -85,7 +106,7 @@ pub extern "C" fn dhcpopt_captures_begin(
     *verdicts = [0; 8];
     *held = [0; 256];
     *bytes = [0; 256];
-    plain(captures::begin())
+    captures::begin().into()
 }
 
 // Takes the next part of the file.
@@ -100,8 +121,12 @@ pub extern "C" fn dhcpopt_captures_feed(
 ) -> PlainProgress
     ensures { FeedsPlain part.now p message.old verdicts.old held.old bytes.old result message.new verdicts.new held.new bytes.new }
 {
-    let q = captures::feed(part, progress_of(p), message, verdicts, held, bytes);
-    plain(q)
+    let mut tally = Tally {
+        verdicts,
+        held,
+        bytes,
+    };
+    captures::feed(part, p.into(), message, &mut tally).into()
 }
 
 // Writes the report of what was read, and gives its length.
@@ -116,5 +141,5 @@ pub extern "C" fn dhcpopt_captures_report(
     ensures size { result ≤ length out.new }
     ensures text { Reports (progress_of_value p) verdicts.now held.now bytes.now out.old result out.new }
 {
-    report::report(progress_of(p), verdicts, held, bytes, out)
+    report::report(p.into(), verdicts, held, bytes, out)
 }

@@ -10,11 +10,12 @@ ghost use Rattle.filled.specs.Fill.{Fills};
 ghost use Rattle.filled.specs.Plain.{plain_filled};
 ghost use Rattle.trim.specs.Plain.{plain_end};
 
-use filled::{Given, PlainFilled};
+use filled::PlainFilled;
+use refusal::Refusal;
 use trim::PlainEnd;
 
 // Writes the listing of a message to the front of a lent buffer where it has room. It is made in a buffer that holds every listing, so that a refusal changes no byte.
-pub fn list_into(m: &[u8], out: &mut [u8]) -> Given
+pub fn list_into(m: &[u8], out: &mut [u8]) -> Result<usize, Refusal>
     ensures { Fills (listed m.now out.old) result out.new }
 {
     let mut text = [0u8; 16384];
@@ -27,7 +28,7 @@ pub fn list_into(m: &[u8], out: &mut [u8]) -> Given
 pub extern "C" fn dhcpopt_list(m: &[u8], out: &mut [u8]) -> PlainFilled
     ensures { (result ≡ plain_filled (listed m.now out.old).answer) × (out.new ≡ (listed m.now out.old).buffer) }
 {
-    filled::plain(list_into(m, out))
+    PlainFilled::from(list_into(m, out))
 }
 
 // The place of END in the options field of an accepted message.
@@ -35,7 +36,7 @@ pub extern "C" fn dhcpopt_list(m: &[u8], out: &mut [u8]) -> PlainFilled
 pub extern "C" fn dhcpopt_options_end(m: &[u8]) -> PlainEnd
     ensures { result ≡ plain_end (options_end_value m.now) }
 {
-    trim::options_end(m)
+    PlainEnd::from(trim::options_end(m))
 }
 
 // The bytes of a code, found through an index, at the front of the buffer out.
@@ -48,7 +49,7 @@ pub extern "C" fn dhcpopt_index_copy(
 ) -> PlainFilled
     ensures { (result ≡ plain_filled (copy_by m.now index.now code out.old).answer) × (out.new ≡ (copy_by m.now index.now code out.old).buffer) }
 {
-    filled::plain(index_copy::copy(m, index, code, out))
+    PlainFilled::from(index_copy::copy(m, index, code, out))
 }
 
 // What is proved of the definition.

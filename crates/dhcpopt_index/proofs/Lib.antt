@@ -1,3 +1,4 @@
 pub mod Kept
 pub mod Used
 mod Through
+mod Told

@@ -23,6 +23,7 @@ use Rattle.kinds.proofs.Numbering.{judged_as, fault_rules}
 use Rattle.lookup.specs.Found.{content_by}
 use Rattle.message.specs.Fields.{field_of, coded_field}
 use Rattle.message.specs.declared.Field.TheVariants.{Options, File, Sname}
+use Rattle.std.specs.Prelude.{Some, None}
 use Rattle.dhcpopt_index.specs.declared.Span.{Span}
 use Rattle.dhcpopt_reader.specs.declared.PlainAnswer.{PlainAnswer}
 use Rattle.dhcpopt_reader.specs.declared.PlainContent.{PlainContent}
@@ -54,26 +55,26 @@ module _ (m : List ℕ) (h : 240 ≤ length m) where
   abbrev whole : Field → Span
   whole fd = record { field = coded_field fd; base = start fd; end = start fd + length (bytes fd m) }
 
-  span_of : (fd : Field) (i : ℕ) → i < length (bytes fd m) → span_at_value (length m) (start fd + i) ≡ whole fd
+  span_of : (fd : Field) (i : ℕ) → i < length (bytes fd m) → span_at_value (length m) (start fd + i) ≡ Some (whole fd)
   span_of options i l =
       let e : length m ≡ 240 + length (drop 240 m) = omega (arith, length-drop 240 m) in
-      rw (le-leb 240 (240 + i) (omega arith)) (ap (λ (n : ℕ). record { field = Options; base = 240; end = n }) e)
+      rw (le-leb 240 (240 + i) (omega arith)) (ap (λ (n : ℕ). Some (record { field = Options; base = 240; end = n })) e)
   span_of file i l =
       let k : length (take 128 (drop 108 m)) ≡ 128 = length-take-le 128 (drop 108 m) (omega (arith, length-drop 108 m)) in
       let e : 236 ≡ 108 + length (take 128 (drop 108 m)) = omega (arith, k) in
       rw (lt-leb 240 (108 + i) (omega arith), le-ltb (108 + i) 44 (omega arith), le-ltb (108 + i) 108 (omega arith), lt-ltb (108 + i) 236 (omega arith))
-      (ap (λ (n : ℕ). record { field = File; base = 108; end = n }) e)
+      (ap (λ (n : ℕ). Some (record { field = File; base = 108; end = n })) e)
   span_of sname i l =
       let k : length (take 64 (drop 44 m)) ≡ 64 = length-take-le 64 (drop 44 m) (omega (arith, length-drop 44 m)) in
       let e : 108 ≡ 44 + length (take 64 (drop 44 m)) = omega (arith, k) in
       rw (lt-leb 240 (44 + i) (omega arith), le-ltb (44 + i) 44 (omega arith), lt-ltb (44 + i) 108 (omega arith))
-      (ap (λ (n : ℕ). record { field = Sname; base = 44; end = n }) e)
+      (ap (λ (n : ℕ). Some (record { field = Sname; base = 44; end = n })) e)
 
   -- the field that a place is in, or none
   data Where (e : ℕ) : Type 0 where
     in_field : (fd : Field) (i : ℕ) → e ≡ start fd + i → i < length (bytes fd m) → Where e
     past : 240 ≤ e → length m ≤ e → Where e
-    nowhere : (span_at_value (length m) e).end ≡ 0 → (span_at_value (length m) e).base ≤ e → Where e
+    nowhere : span_at_value (length m) e ≡ None → Where e
 
   where_is : (e : ℕ) → Where e
   where_is e = go (dec_lt e 240) (dec_lt e 44) (dec_lt e 108) (dec_lt e 236) (dec_lt e (length m))
@@ -81,9 +82,7 @@ module _ (m : List ℕ) (h : 240 ≤ length m) where
       go : Dec (e < 240) → Dec (e < 44) → Dec (e < 108) → Dec (e < 236) → Dec (e < length m) → Where e
       go (no f) a b d (yes k) = in_field options (e - 240) (omega (arith, f)) (omega (arith, f, k, length-drop 240 m))
       go (no f) a b d (no k) = past (omega (arith, f)) (omega (arith, k))
-      go (yes l) (yes a) b d k =
-          let z : span_at_value (length m) e ≡ record { field = Sname; base = 0; end = 0 } = rw (lt-leb 240 e l, lt-ltb e 44 a) refl in
-          nowhere (ap (λ (s : Span). s.end) z) (rw (ap (λ (s : Span). s.base) z) (omega arith))
+      go (yes l) (yes a) b d k = nowhere (rw (lt-leb 240 e l, lt-ltb e 44 a) refl)
       go (yes l) (no a) (yes b) d k =
           let n : length (take 64 (drop 44 m)) ≡ 64 = length-take-le 64 (drop 44 m) (omega (arith, length-drop 44 m)) in
           in_field sname (e - 44) (omega (arith, a)) (omega (arith, a, b, n))
@@ -91,33 +90,40 @@ module _ (m : List ℕ) (h : 240 ≤ length m) where
           let n : length (take 128 (drop 108 m)) ≡ 128 = length-take-le 128 (drop 108 m) (omega (arith, length-drop 108 m)) in
           in_field file (e - 108) (omega (arith, b)) (omega (arith, b, d, n))
       go (yes l) (no a) (no b) (no d) k =
-          let z : span_at_value (length m) e ≡ record { field = File; base = 108; end = 0 } = rw (lt-leb 240 e l, le-ltb e 44 (omega (arith, a)), le-ltb e 108 (omega (arith, b)), le-ltb e 236 (omega (arith, d))) refl in
-          nowhere (ap (λ (s : Span). s.end) z) (rw (ap (λ (s : Span). s.base) z) (omega (arith, b)))
+          nowhere (rw (lt-leb 240 e l, le-ltb e 44 (omega (arith, a)), le-ltb e 108 (omega (arith, b)), le-ltb e 236 (omega (arith, d))) refl)
 
-  span_at_past : (e : ℕ) → 240 ≤ e → span_at_value (length m) e ≡ record { field = Options; base = 240; end = length m }
+  span_at_past : (e : ℕ) → 240 ≤ e → span_at_value (length m) e ≡ Some (record { field = Options; base = 240; end = length m })
   span_at_past e l = rw (le-leb 240 e l) refl
 
-  -- a field ends within the message, and begins at the place or before
-  pub end_within : (e : ℕ) → (span_at_value (length m) e).end ≤ length m
-  end_within e = go (where_is e)
-    where
-      go : Where e → (span_at_value (length m) e).end ≤ length m
-      go (in_field fd i z l) = rw (z, ap (λ (s : Span). s.end) (span_of fd i l)) (inside fd)
-        where
-          inside : (fd : Field) → start fd + length (bytes fd m) ≤ length m
-          inside options = omega (arith, length-drop 240 m)
-          inside file = omega (arith, length-take 128 (drop 108 m), length-drop 108 m)
-          inside sname = omega (arith, length-take 64 (drop 44 m), length-drop 44 m)
-      go (past l k) = rw (ap (λ (s : Span). s.end) (span_at_past e l)) (omega arith)
-      go (nowhere z b) = omega (arith, z)
+  -- the span of a place
+  module _ (e : ℕ) (s : Span) (q : span_at_value (length m) e ≡ Some s) where
+    same : (t : Span) → span_at_value (length m) e ≡ Some t → s ≡ t
+    same t r = let z : Some s ≡ Some t = sym q ∙ r in cc
 
-  pub base_before : (e : ℕ) → (span_at_value (length m) e).base ≤ e
-  base_before e = go (where_is e)
-    where
-      go : Where e → (span_at_value (length m) e).base ≤ e
-      go (in_field fd i z l) = rw (z, ap (λ (s : Span). s.base) (span_of fd i l)) (omega arith)
-      go (past l k) = rw (ap (λ (s : Span). s.base) (span_at_past e l)) l
-      go (nowhere z b) = b
+    in_whole : (fd : Field) (i : ℕ) → e ≡ start fd + i → i < length (bytes fd m) → s ≡ whole fd
+    in_whole fd i z l = same (whole fd) (ap (span_at_value (length m)) z ∙ span_of fd i l)
+
+    -- a field ends within the message, and begins at the place or before
+    pub end_within : s.end ≤ length m
+    end_within = go (where_is e)
+      where
+        inside : (fd : Field) → start fd + length (bytes fd m) ≤ length m
+        inside options = omega (arith, length-drop 240 m)
+        inside file = omega (arith, length-take 128 (drop 108 m), length-drop 108 m)
+        inside sname = omega (arith, length-take 64 (drop 44 m), length-drop 44 m)
+
+        go : Where e → s.end ≤ length m
+        go (in_field fd i z l) = let y : s.end ≡ start fd + length (bytes fd m) = ap (λ (x : Span). x.end) (in_whole fd i z l) in omega (arith, y, inside fd)
+        go (past l k) = let y : s.end ≡ length m = ap (λ (x : Span). x.end) (same (record { field = Options; base = 240; end = length m }) (span_at_past e l)) in omega (arith, y)
+        go (nowhere z) = let y : Some s ≡ None = sym q ∙ z in absurd (cc)
+
+    pub base_before : s.base ≤ e
+    base_before = go (where_is e)
+      where
+        go : Where e → s.base ≤ e
+        go (in_field fd i z l) = let y : s.base ≡ start fd = ap (λ (x : Span). x.base) (in_whole fd i z l) in omega (arith, y, z)
+        go (past l k) = let y : s.base ≡ 240 = ap (λ (x : Span). x.base) (same (record { field = Options; base = 240; end = length m }) (span_at_past e l)) in omega (arith, y, l)
+        go (nowhere z) = let y : Some s ≡ None = sym q ∙ z in absurd (cc)
 
   byte_of : (fd : Field) (i : ℕ) → i < length (bytes fd m) → get_or (bytes fd m) i 0 ≡ get_or m (start fd + i) 0
   byte_of options i l = get_or-drop 240 m i 0
@@ -127,7 +133,9 @@ module _ (m : List ℕ) (h : 240 ≤ length m) where
   -- ---- what a usable entry passes
 
   pub record Passes (c e : ℕ) : Type 0 where
-    pub within : e + 2 + get_or m (e + 1) 0 ≤ (span_at_value (length m) e).end
+    pub span : Span
+    pub is_span : span_at_value (length m) e ≡ Some span
+    pub within : e + 2 + get_or m (e + 1) 0 ≤ span.end
     pub is_code : get_or m e 0 ≡ c
 
   from_field : (fd : Field) (i c : ℕ) (d r : List ℕ) → drop i (bytes fd m) ≡ c ∷ length d ∷ (d ++ r) → Passes c (start fd + i)
@@ -138,30 +146,39 @@ module _ (m : List ℕ) (h : 240 ≤ length m) where
       let a : get_or f i 0 ≡ c = ap (λ (k : ℕ). get_or f k 0) (let z : i ≡ i + 0 = omega arith in z) ∙ sym (get_or-drop i f 0 0) ∙ ap (λ (x : List ℕ). get_or x 0 0) q in
       let b : get_or f (i + 1) 0 ≡ length d = sym (get_or-drop i f 1 0) ∙ ap (λ (x : List ℕ). get_or x 1 0) q in
       let k : get_or m (start fd + i + 1) 0 ≡ length d = ap (λ (j : ℕ). get_or m j 0) (let z : start fd + i + 1 ≡ start fd + (i + 1) = omega arith in z) ∙ sym (byte_of fd (i + 1) (omega arith)) ∙ b in
-      let s : (span_at_value (length m) (start fd + i)).end ≡ start fd + length f = ap (λ (x : Span). x.end) (span_of fd i (omega arith)) in
-      record { within = omega (arith, k, s); is_code = sym (byte_of fd i (omega arith)) ∙ a }
+      record { span = whole fd; is_span = span_of fd i (omega arith); within = omega (arith, k); is_code = sym (byte_of fd i (omega arith)) ∙ a }
 
   pub passes : {c e : ℕ} → Usable m c e → Passes c e
   passes {c} {e} u = subst (Passes c) (sym u.lies) (from_field u.field u.offset c u.body u.after u.reads)
 
+  pub no_span : (c e : ℕ) → span_at_value (length m) e ≡ None → Usable m c e → ⊥
+  no_span c e z u = let y : Some (passes u).span ≡ None = sym (passes u).is_span ∙ z in absurd (cc)
+
+  module _ (c e : ℕ) (s : Span) (q : span_at_value (length m) e ≡ Some s) (u : Usable m c e) where
+    pub passes_end : e + 2 + get_or m (e + 1) 0 ≤ s.end
+    passes_end = let y : s.end ≡ (passes u).span.end = ap (λ (x : Span). x.end) (same e s q (passes u).span (passes u).is_span) in omega (arith, y, (passes u).within)
+
+    pub passes_code : get_or m e 0 ≡ c
+    passes_code = (passes u).is_code
+
   -- ---- and the other way
 
   -- the option that is used: its field and offset by the span, its data those behind the length byte
-  pub record Used (c e n : ℕ) : Type 0 where
+  pub record Used (c e n : ℕ) (s : Span) : Type 0 where
     pub option : Opt
     pub is_used : used_entry m c e ≡ some option
-    pub field_is : field_of (span_at_value (length m) e).field ≡ option.field
-    pub offset_is : e - (span_at_value (length m) e).base ≡ option.offset
+    pub field_is : field_of s.field ≡ option.field
+    pub offset_is : e - s.base ≡ option.offset
     pub lies : e ≡ start option.field + option.offset
     pub body_is : take n (drop (e + 2) m) ≡ option.item.body
 
-  module _ (c e n : ℕ) (w : e + 2 + n ≤ (span_at_value (length m) e).end) (p : get_or m e 0 ≡ c) (q : get_or m (e + 1) 0 ≡ n) where
+  module _ (c e n : ℕ) (s : Span) (v : span_at_value (length m) e ≡ Some s) (w : e + 2 + n ≤ s.end) (p : get_or m e 0 ≡ c) (q : get_or m (e + 1) 0 ≡ n) where
     coded_back : (fd : Field) → field_of (coded_field fd) ≡ fd
     coded_back options = refl
     coded_back file = refl
     coded_back sname = refl
 
-    used_in : (fd : Field) (i : ℕ) → e ≡ start fd + i → i + 2 + n ≤ length (bytes fd m) → Used c e n
+    used_in : (fd : Field) (i : ℕ) → e ≡ start fd + i → i + 2 + n ≤ length (bytes fd m) → Used c e n s
     used_in fd i z l =
         let f = bytes fd m in
         let d : List ℕ = take n (drop (i + 2) f) in
@@ -178,26 +195,28 @@ module _ (m : List ℕ) (h : 240 ≤ length m) where
           lies = z;
           reads = g ∙ ap₂ (λ (x : ℕ) (xs : List ℕ). c ∷ x ∷ xs) (sym k) (sym (take-append-drop n (drop (i + 2) f)));
         } in
-        let s : span_at_value (length m) e ≡ whole fd = ap (span_at_value (length m)) z ∙ span_of fd i (omega arith) in
         let y : start fd + (i + 2) ≡ e + 2 = omega arith in
+        let o : s ≡ whole fd = in_whole e s v fd i z (omega arith) in
         record {
           option = opt fd i c d;
           is_used = usable_used m c e u;
-          field_is = ap (λ (x : Span). field_of x.field) s ∙ coded_back fd;
-          offset_is = let x : (span_at_value (length m) e).base ≡ start fd = ap (λ (x : Span). x.base) s in omega (arith, x, z);
+          field_is = ap (λ (x : Span). field_of x.field) o ∙ coded_back fd;
+          offset_is = let x : s.base ≡ start fd = ap (λ (x : Span). x.base) o in omega (arith, x, z);
           lies = z;
           body_is = ap (λ (j : ℕ). take n (drop j m)) (sym y) ∙ sym (field_part fd m (i + 2) n l);
         }
 
-    pub used : Used c e n
+    pub used : Used c e n s
     used = go (where_is e)
       where
-        go : Where e → Used c e n
+        go : Where e → Used c e n s
         go (in_field fd i z l) =
-            let s : (span_at_value (length m) e).end ≡ start fd + length (bytes fd m) = ap (λ (x : Span). x.end) (ap (span_at_value (length m)) z ∙ span_of fd i l) in
-            used_in fd i z (omega (arith, w, s, z))
-        go (past l k) = let s : (span_at_value (length m) e).end ≡ length m = ap (λ (x : Span). x.end) (span_at_past e l) in absurd (omega (arith, w, s))
-        go (nowhere z b) = absurd (omega (arith, w, z))
+            let y : s.end ≡ start fd + length (bytes fd m) = ap (λ (x : Span). x.end) (in_whole e s v fd i z l) in
+            used_in fd i z (omega (arith, w, y, z))
+        go (past l k) =
+            let y : s.end ≡ length m = ap (λ (x : Span). x.end) (same e s v (record { field = Options; base = 240; end = length m }) (span_at_past e l)) in
+            absurd (omega (arith, w, y))
+        go (nowhere z) = let y : Some s ≡ None = sym v ∙ z in absurd (cc)
 
 -- ---- what is answered of an entry that is used
 
@@ -220,10 +239,10 @@ shape fd i e x =
 told : (fd : Field) (i e : ℕ) (x : PlainContent) → e ≡ start fd + i → shape fd i e x ≡ plain_found (record { field = fd; offset = i; wholeness = asked.in_one }) x
 told fd i e x z = rw z refl
 
-pub found_used : (m : List ℕ) (h : 240 ≤ length m) (set : ℕ → Bool) (c e n : ℕ) (u : Used m h c e n) (x : PlainContent)
+pub found_used : (m : List ℕ) (h : 240 ≤ length m) (set : ℕ → Bool) (c e n : ℕ) (s : Span) (u : Used m h c e n s) (x : PlainContent)
     → x ≡ plain_content (asked.content_of kinds set c (take n (drop (e + 2) m)))
-    → found_at (span_at_value (length m) e) e x ≡ plain_answer (entry_answer kinds set c e (used_entry m c e))
-found_used m h set c e n u x q =
+    → found_at s e x ≡ plain_answer (entry_answer kinds set c e (used_entry m c e))
+found_used m h set c e n s u x q =
     let o = u.option in
     ap₂ (λ (fd : Field) (i : ℕ). shape fd i e x) u.field_is u.offset_is ∙ told o.field o.offset e x u.lies
     ∙ ap (plain_found (record { field = o.field; offset = o.offset; wholeness = asked.in_one })) (q ∙ ap (λ (d : List ℕ). plain_content (asked.content_of kinds set c d)) u.body_is)
@@ -236,3 +255,6 @@ not_used m c e n = go (used_entry m c e) refl
     go : (x : Option Opt) → used_entry m c e ≡ x → x ≡ none
     go none q = refl
     go (some o) q = absurd (n (used_usable m c e o q).0)
+
+pub unused_answer : (m : List ℕ) (set : ℕ → Bool) (c e : ℕ) → (Usable m c e → ⊥) → plain_answer (asked.Refused 19 e) ≡ plain_answer (entry_answer kinds set c e (used_entry m c e))
+unused_answer m set c e n = ap (λ (x : Option Opt). plain_answer (entry_answer kinds set c e x)) (sym (not_used m c e n))

@@ -5,20 +5,23 @@
 
 ghost use Rattle.std.specs.Prelude.{◌≡◌, cond, [], ◌∷◌, ◌≤◌, ◌%◌, eqb, pos, length};
 ghost use Rattle.options.specs.Kinds as kindsOf;
-ghost use Rattle.options.specs.Kinds.{kinds};
+ghost use Rattle.options.specs.Kinds.{kinds, meaning};
 ghost use Rattle.options.specs.CodeSet.{marked};
 ghost use Rattle.options.specs.Answers as asked;
 ghost use Rattle.options.specs.Index.{build, lookup_by, entry_answer, used_entry};
 ghost use Rattle.filled.specs.Plain.{plain_filled};
-ghost use Rattle.kinds.specs.Numbers.{row_at, value_fault_in};
-ghost use Rattle.lookup.specs.Found.{value_of, content_by};
+ghost use Rattle.refusal.specs.Refused.{number_of, fault_number, fault_or_none};
+ghost use Rattle.kinds.specs.Numbers.{kind_at, kind_numbered, row_at, value_fault_in};
+ghost use Rattle.lookup.specs.Found.{content_by};
 ghost use Rattle.dhcpopt_reader.specs.Plain.{plain_number, plain_content, plain_answer};
-ghost use Rattle.dhcpopt_index.specs.Found.{text_content_value, relay_content_value, routes_content_value, span_at_value, found_at};
+ghost use Rattle.dhcpopt_index.specs.Found.{text_content_value, part_content, span_at_value, found_at};
 ghost use Rattle.dhcpopt_index.specs.Built.{BuildKept};
 
 use dhcpopt_reader::{PlainAnswer, PlainContent};
 use filled::PlainFilled;
+use kinds::OptionKind;
 use message::Field;
+use refusal::{Fault, Rule};
 
 // No refusal of building has number 0, and none changes a number.
 pub fn proved()
@@ -30,16 +33,16 @@ pub fn proved()
 pub extern "C" fn dhcpopt_index_build(m: &[u8], index: &mut [u16]) -> PlainFilled
     ensures { (result ≡ plain_filled (build m.now index.old).answer) × (index.new ≡ (build m.now index.old).buffer) }
 {
-    filled::plain(index::build(m, index))
+    PlainFilled::from(index::build(m, index))
 }
 
-fn broken(fault: u8) -> PlainContent
-    ensures { result ≡ plain_content (asked.known (kindsOf.broken fault)) }
+fn broken(fault: Fault) -> PlainContent
+    ensures { result ≡ plain_content (asked.known (kindsOf.broken (fault_number fault))) }
 {
     PlainContent {
         status: 5,
         kind: 0,
-        refusal: fault as u32,
+        refusal: fault.number(),
         number: 0,
         length: 0,
     }
@@ -51,27 +54,29 @@ fn unsigned(kind: u32, n: u32) -> PlainContent
     dhcpopt_reader::of_number(kind, dhcpopt_reader::from_unsigned(n))
 }
 
-// What data that keeps the rules of its kind means.
-fn value(k: u8, d: &[u8]) -> PlainContent
-    ensures { result ≡ plain_content (value_of k d.now) }
+// What data that keep the rules of a row mean.
+#[tactic(auto, using(lookup::proofs::Rows::kind_told), unfolding(options::specs::Kinds::meaning))]
+fn value(row: u8, d: &[u8]) -> PlainContent
+    ensures { result ≡ plain_content (asked.known (meaning (kind_at (kind_numbered row)) d.now)) }
 {
-    match k {
-        kinds::ADDRESS => unsigned(1, num::first32(d)),
-        kinds::ADDRESSES => dhcpopt_reader::of_part(4, 2, d.len()),
-        kinds::PAIRS => dhcpopt_reader::of_part(4, 3, d.len()),
-        kinds::FLAG => unsigned(4, num::byte(d, 0) as u32),
-        kinds::OCTET => unsigned(5, num::byte(d, 0) as u32),
-        kinds::NUMBER16 => unsigned(6, num::first16(d) as u32),
-        kinds::NUMBERS16 => dhcpopt_reader::of_part(4, 7, d.len()),
-        kinds::UNSIGNED32 => unsigned(8, num::first32(d)),
-        kinds::SIGNED32 => {
+    match kinds::kind_in(row) {
+        Some(OptionKind::Address) => unsigned(1, num::first32(d)),
+        Some(OptionKind::Addresses) => dhcpopt_reader::of_part(4, 2, d.len()),
+        Some(OptionKind::Pairs) => dhcpopt_reader::of_part(4, 3, d.len()),
+        Some(OptionKind::Flag) => unsigned(4, num::byte(d, 0) as u32),
+        Some(OptionKind::Octet) => unsigned(5, num::byte(d, 0) as u32),
+        Some(OptionKind::Number16) => unsigned(6, num::first16(d) as u32),
+        Some(OptionKind::Numbers16) => dhcpopt_reader::of_part(4, 7, d.len()),
+        Some(OptionKind::Unsigned32) => unsigned(8, num::first32(d)),
+        Some(OptionKind::Signed32) => {
             let z = num::signed(num::first32(d));
             dhcpopt_reader::of_number(9, dhcpopt_reader::from_signed(z))
         }
-        kinds::TEXT => dhcpopt_reader::of_part(4, 10, kinds::text_len(d)),
-        kinds::RELAY => dhcpopt_reader::of_part(4, 12, d.len()),
-        kinds::ROUTES => dhcpopt_reader::of_part(4, 13, d.len()),
-        _ => dhcpopt_reader::of_part(4, 11, d.len()),
+        Some(OptionKind::Text) => dhcpopt_reader::of_part(4, 10, kinds::text_len(d)),
+        Some(OptionKind::Relay) => dhcpopt_reader::of_part(4, 12, d.len()),
+        Some(OptionKind::Routes) => dhcpopt_reader::of_part(4, 13, d.len()),
+        Some(OptionKind::Opaque) => dhcpopt_reader::of_part(4, 11, d.len()),
+        None => dhcpopt_reader::of_part(4, 11, d.len()),
     }
 }
 
@@ -80,37 +85,25 @@ fn text_content(d: &[u8]) -> PlainContent
     ensures { result ≡ plain_content (text_content_value d.now) }
 {
     if !kinds::text_fits(d) {
-        return broken(9);
+        return broken(Fault::Value);
     }
     dhcpopt_reader::of_part(4, 10, kinds::text_len(d))
 }
 
-// Relay information too.
-fn relay_content(d: &[u8]) -> PlainContent
-    ensures { result ≡ plain_content (relay_content_value d.now) }
+// A part of so many bytes, which a fault may break.
+fn part(fault: Option<Fault>, kind: u32, length: usize) -> PlainContent
+    ensures { result ≡ part_content (fault_or_none fault) kind length }
 {
-    let fault = kinds::suboptions_fault(d);
-    if fault != 0 {
-        return broken(fault);
+    match fault {
+        Some(fault) => broken(fault),
+        None => dhcpopt_reader::of_part(4, kind, length),
     }
-    dhcpopt_reader::of_part(4, 12, d.len())
 }
 
-// And classless routes.
-fn routes_content(d: &[u8]) -> PlainContent
-    ensures { result ≡ plain_content (routes_content_value d.now) }
-{
-    let fault = route_data::first_fault(d);
-    if fault != 0 {
-        return broken(fault);
-    }
-    dhcpopt_reader::of_part(4, 13, d.len())
-}
-
-// How data break the rule of value of another row.
-fn value_fault(row: u8, d: &[u8]) -> u8
+// How data break the rule of value of a row of another kind than these.
+fn value_fault(row: u8, d: &[u8]) -> Option<Fault>
     requires { (row % 16 ≡ 12 → ⊥) × (row % 16 ≡ 13 → ⊥) }
-    ensures { result ≡ value_fault_in (row_at row) d.now }
+    ensures { fault_or_none result ≡ value_fault_in (row_at row) d.now }
 {
     if kinds::is_list(row) {
         return kinds::short_list_fault(row, d);
@@ -126,70 +119,56 @@ fn content(row: u8, d: &[u8]) -> PlainContent
         return dhcpopt_reader::of_part(1, 0, d.len());
     }
     if !kinds::length_fits(row, d.len()) {
-        return broken(8);
+        return broken(Fault::Length);
     }
-    let k = kinds::kind_of(row);
-    if k == kinds::TEXT {
-        return text_content(d);
+    match kinds::kind_in(row) {
+        Some(OptionKind::Text) => text_content(d),
+        Some(OptionKind::Relay) => part(kinds::suboptions_fault(d), 12, d.len()),
+        Some(OptionKind::Routes) => part(route_data::first_fault(d), 13, d.len()),
+        _ => match value_fault(row, d) {
+            Some(fault) => broken(fault),
+            None => value(row, d),
+        },
     }
-    if k == kinds::RELAY {
-        return relay_content(d);
-    }
-    if k == kinds::ROUTES {
-        return routes_content(d);
-    }
-    let fault = value_fault(row, d);
-    if fault != 0 {
-        return broken(fault);
-    }
-    value(k, d)
 }
 
-// A field that holds a place: where it begins and where it ends. Where no field holds the place the end is 0.
+// A field that holds a place: where it begins and where it ends.
 #[derive(Clone, Copy)]
-struct Span {
-    field: Field,
-    base: usize,
-    end: usize,
+pub struct Span {
+    pub field: Field,
+    pub base: usize,
+    pub end: usize,
 }
 
-// The field that holds a place of a message of n bytes.
-fn span_at(n: usize, place: usize) -> Span
+// The field that holds a place of a message of n bytes, where one does.
+pub fn span_at(n: usize, place: usize) -> Option<Span>
     ensures { result ≡ span_at_value n place }
 {
     if 240 <= place {
-        return Span {
+        return Some(Span {
             field: Field::Options,
             base: 240,
             end: n,
-        };
+        });
     }
     if place < 44 {
-        return Span {
-            field: Field::Sname,
-            base: 0,
-            end: 0,
-        };
+        return None;
     }
     if place < 108 {
-        return Span {
+        return Some(Span {
             field: Field::Sname,
             base: 44,
             end: 108,
-        };
+        });
     }
     if place < 236 {
-        return Span {
+        return Some(Span {
             field: Field::File,
             base: 108,
             end: 236,
-        };
+        });
     }
-    Span {
-        field: Field::File,
-        base: 108,
-        end: 0,
-    }
+    None
 }
 
 // The place of the code byte of what is broken; any other answer gives no place.
@@ -220,21 +199,31 @@ fn found(s: Span, place: usize, c: PlainContent) -> PlainAnswer
     }
 }
 
+fn refused(rule: Rule, place: usize) -> PlainAnswer
+    ensures { result ≡ plain_answer (asked.Refused (number_of rule) place) }
+{
+    dhcpopt_reader::of_refusal(2, rule.number(), place)
+}
+
 // The answer by an entry that is neither 0 nor 65,535: it is used only if the code, its length byte and its data are there, in one field.
-fn at_entry(m: &[u8], s: Span, known: [u64; 4], code: u8, place: usize) -> PlainAnswer
-    requires { (240 ≤ length m.now) × (place ≤ 65535) × (s ≡ span_at_value (length m.now) place) }
+// index_copy::copy_entry makes the same three tests: each refuses with its own type at once, and a function for both would give a third type, which each would match again.
+fn at_entry(m: &[u8], span: Option<Span>, known: [u64; 4], code: u8, place: usize) -> PlainAnswer
+    requires { (240 ≤ length m.now) × (place ≤ 65535) × (span ≡ span_at_value (length m.now) place) }
     ensures { result ≡ plain_answer (entry_answer kinds (marked known) code place (used_entry m.now code place)) }
 {
+    let Some(s) = span else {
+        return refused(Rule::BadIndexEntry, place);
+    };
     let start = place + 2;
     if s.end < start {
-        return dhcpopt_reader::of_refusal(2, 19, place);
+        return refused(Rule::BadIndexEntry, place);
     }
     if m[place] != code {
-        return dhcpopt_reader::of_refusal(2, 19, place);
+        return refused(Rule::BadIndexEntry, place);
     }
     let end = start + num::wide(m[place + 1]);
     if s.end < end {
-        return dhcpopt_reader::of_refusal(2, 19, place);
+        return refused(Rule::BadIndexEntry, place);
     }
     let row = lookup::known_row(known, code);
     found(s, place, content(row, &m[start..end]))
@@ -254,19 +243,16 @@ pub extern "C" fn dhcpopt_index_lookup(
 ) -> PlainAnswer
     ensures { result ≡ plain_answer (lookup_by kinds (marked (k0 ∷ k1 ∷ k2 ∷ k3 ∷ [])) m.now index.now code) }
 {
-    if code == 0 {
-        return dhcpopt_reader::of_refusal(2, 10, 0);
+    if code == 0 || code == 255 {
+        return refused(Rule::BadCode, 0);
     }
-    if code == 255 {
-        return dhcpopt_reader::of_refusal(2, 10, 0);
-    }
-    if message::unfit(m) != 0 {
+    if message::fit(m).is_err() {
         let a = dhcpopt_reader::dhcpopt_lookup(&m[..], k0, k1, k2, k3, code);
         return a;
     }
     let n = index.len();
     if n != 256 {
-        return dhcpopt_reader::of_refusal(2, 18, n);
+        return refused(Rule::BadIndexCount, n);
     }
     let entry = index[num::wide(code)];
     if entry == 0 {

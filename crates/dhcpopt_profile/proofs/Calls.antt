@@ -12,11 +12,11 @@ use Rattle.theorems.proofs.View.{clash}
 use Rattle.theorems.proofs.Reading.{refused_by_the_table}
 use Rattle.theorems.proofs.Indexes.{build_is_right}
 use Rattle.profile_theorems.proofs.Profiles.{is_profile}
-use Rattle.filled.specs.declared.Given.{Given}
-use Rattle.filled.specs.declared.Given.TheVariants.{Bytes, Refused}
-use Rattle.filled.specs.Fill.{given_of, Fills}
-use Rattle.dhcpopt_profile.specs.declared.PlainProfile.{PlainProfile}
-use Rattle.dhcpopt_profile.specs.Plain.{plain_profile}
+use Rattle.std.specs.Prelude.{Result, Ok, Err}
+use Rattle.refusal.specs.declared.Refusal.{Refusal}
+use Rattle.refusal.specs.Refused.{number_of}
+use Rattle.filled.specs.Fill.{Fills}
+use Rattle.dhcpopt_profile.specs.Plain.{plain_profile, plain_by}
 use Rattle.dhcpopt_profile.specs.Judging.{Judges}
 
 -- what building came to
@@ -41,12 +41,12 @@ built_by m old n (refused_head h) e = clash (cc)
 built_by m old n (refused_reader h c f) e = clash (cc)
 built_by m old n (builds c b) e = b
 
-module _ (m old after : List ℕ) (l : length old ≡ 256) (r : Given) (f : Fills (build m old) r after) where
-  pub profile_refused : (n p : ℕ) → r ≡ Refused n p → record { broken = 0; refusal = n; place = p } ≡ plain_profile (asked.profile m)
-  profile_refused n p e = ap plain_profile (refused_by m old n p l (outcome m old) (ap given_of (sym e) ∙ f.answer))
+module _ (m old after : List ℕ) (l : length old ≡ 256) where
+  pub profile_refused : (r : Refusal) → Fills (build m old) (Err r) after → plain_by (Err r) ≡ plain_profile (asked.profile m)
+  profile_refused r f = ap plain_profile (refused_by m old (number_of r.rule) r.place l (outcome m old) f.answer)
 
-  pub is_built : (n : ℕ) → r ≡ Bytes n → BuiltFrom m after
-  is_built n e = subst (BuiltFrom m) (sym f.buffer) (built_by m old n (outcome m old) (ap given_of (sym e) ∙ f.answer))
+  pub is_built : (n : ℕ) → Fills (build m old) (Ok n) after → BuiltFrom m after
+  is_built n f = subst (BuiltFrom m) (sym f.buffer) (built_by m old n (outcome m old) f.answer)
 
-  pub profile_built : (n : ℕ) → r ≡ Bytes n → (x : PlainProfile) → Judges m after x → x ≡ plain_profile (asked.profile m)
-  profile_built n e x j = let b = is_built n e in j b ∙ ap plain_profile (sym (is_profile m b.is_accepted))
+  pub profile_built : BuiltFrom m after → (x : Result ℕ Refusal) → Judges m after x → plain_by x ≡ plain_profile (asked.profile m)
+  profile_built b x j = j b ∙ ap plain_profile (sym (is_profile m b.is_accepted))

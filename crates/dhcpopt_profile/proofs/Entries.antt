@@ -72,9 +72,9 @@ one_of m a c o p =
     } in
     let w = passes m h u in
     let n : ℕ = get_or m (e + 1) 0 in
-    let q = used m h c e n w.within w.is_code refl in
+    let q = used m h c e n w.span w.is_span w.within w.is_code refl in
     let b : take n (drop (e + 2) m) ≡ o.item.body = q.body_is ∙ same_body (sym q.is_used ∙ usable_used m c e u) in
-    let l : e + 2 + n ≤ length m = omega (arith, w.within, end_within m h e) in
+    let l : e + 2 + n ≤ length m = omega (arith, w.within, end_within m h e w.span w.is_span) in
     let k : length (take n (drop (e + 2) m)) ≡ n = length-take-le n (drop (e + 2) m) (omega (arith, length-drop (e + 2) m)) in
     let z : n ≡ length o.item.body = sym k ∙ ap length b in
     record { option = o; is_only = p; at = refl; stands = s; size = z; within = omega (arith, z, l); body_is = b }

@@ -10,10 +10,13 @@ use Rattle.options.specs.Profile.{Profile, distrusted, declined, profile}
 use Rattle.options.specs.ProfileClaims.{ProfileIs, of_reading, row_25, trusts, distrusts}
 use Rattle.theorems.proofs.View.{clash}
 use Rattle.profile_theorems.proofs.Profiles.{profile_is_correct}
-use Rattle.dhcpopt_profile.specs.Plain.{ProfileByCase, ProfileKept}
+use Rattle.dhcpopt_profile.specs.Plain.{ProfileByCase, ProfileGivenByCase, ProfileKept}
 
 pub profile_by_case : ProfileByCase
 profile_by_case = (refl, (λ s. refl), (λ n p. refl))
+
+pub profile_given_by_case : ProfileGivenByCase
+profile_given_by_case = (refl, (λ s. refl), (λ r. refl))
 
 row_from_1 : {m : List ℕ} {n p : ℕ} {w : When} → Row m n p w → FromTo 1 7 n
 row_from_1 (row_1 h) = (omega arith, omega arith)

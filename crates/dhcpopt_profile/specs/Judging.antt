@@ -1,5 +1,5 @@
 -- WHAT THE CODE ASKS OF AN INDEX, code by code. Internals: the contract of the call does not rest on these. Assumes nothing.
-use Rattle.std.specs.Prelude.{◌≡◌, Bool, true, false, cond, not, List, [], ◌∷◌, ℕ, ◌+◌, ◌%◌, ◌≤◌, eqb, ltb, leb}
+use Rattle.std.specs.Prelude.{◌≡◌, Bool, true, false, cond, not, List, [], ◌∷◌, ℕ, ◌+◌, ◌%◌, ◌≤◌, eqb, ltb, leb, Result}
 use Rattle.std.specs.Int.{w64}
 use Rattle.std.proofs.Common.{of_z}
 use Rattle.options.specs.Reading.{either}
@@ -11,8 +11,8 @@ use Rattle.options.specs.IndexClaims.{BuiltFrom}
 use Rattle.options.specs.Profile.{is_formed, profile_of}
 use Rattle.dhcpopt_reader.specs.Plain.{plain_answer}
 use Rattle.dhcpopt_reader.specs.declared.PlainAnswer.{PlainAnswer}
-use Rattle.dhcpopt_profile.specs.declared.PlainProfile.{PlainProfile}
-use Rattle.dhcpopt_profile.specs.Plain.{plain_profile}
+use Rattle.refusal.specs.declared.Refusal.{Refusal}
+use Rattle.dhcpopt_profile.specs.Plain.{plain_profile, plain_by}
 
 abbrev pub every : List ℕ
 every = 18446744073709551615 ∷ 18446744073709551615 ∷ 18446744073709551615 ∷ 18446744073709551615 ∷ []
@@ -58,5 +58,5 @@ abbrev pub bit_if : Bool → ℕ → ℕ
 bit_if b n = cond b n 0
 
 -- what is judged through an index of an accepted message
-abbrev pub Judges : List ℕ → List ℕ → PlainProfile → Type 0
-Judges m index r = (b : BuiltFrom m index) → r ≡ plain_profile (profile_of b.is_accepted.options)
+abbrev pub Judges : List ℕ → List ℕ → Result ℕ Refusal → Type 0
+Judges m index r = (b : BuiltFrom m index) → plain_by r ≡ plain_profile (profile_of b.is_accepted.options)

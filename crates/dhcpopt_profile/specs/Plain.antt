@@ -1,5 +1,7 @@
 -- THE REPLY PROFILE AS PLAIN NUMBERS, FOR C. The contract of the call rests on `plain_profile`. Assumes nothing.
-use Rattle.std.specs.Prelude.{◌≡◌, List, ◌⊎◌, ℕ, ◌<◌}
+use Rattle.std.specs.Prelude.{◌≡◌, List, ◌⊎◌, ℕ, ◌<◌, Result, Ok, Err}
+use Rattle.refusal.specs.declared.Refusal.{Refusal}
+use Rattle.refusal.specs.Refused.{number_of}
 use Rattle.options.specs.KindClaims.{FromTo}
 use Rattle.options.specs.Profile.{Profile, trusted, distrusted, declined, profile}
 use Rattle.dhcpopt_profile.specs.declared.PlainProfile.{PlainProfile}
@@ -9,6 +11,17 @@ abbrev pub plain_profile : Profile → PlainProfile
 plain_profile trusted = record { broken = 0; refusal = 0; place = 0 }
 plain_profile (distrusted s) = record { broken = s; refusal = 0; place = 0 }
 plain_profile (declined n p) = record { broken = 0; refusal = n; place = p }
+
+-- the same as the code gives it: the rules that are broken, 0 for none; or number and place of a refusal
+abbrev pub plain_by : Result ℕ Refusal → PlainProfile
+plain_by (Ok s) = record { broken = s; refusal = 0; place = 0 }
+plain_by (Err r) = record { broken = 0; refusal = number_of r.rule; place = r.place }
+
+abbrev pub ProfileGivenByCase : Type 0
+ProfileGivenByCase =
+    (plain_by (Ok 0) ≡ plain_profile trusted)
+    × ((s : ℕ) → plain_by (Ok s) ≡ plain_profile (distrusted s))
+    × ((r : Refusal) → plain_by (Err r) ≡ plain_profile (declined (number_of r.rule) r.place))
 
 -- each case with its own numbers, in every member
 abbrev pub ProfileByCase : Type 0

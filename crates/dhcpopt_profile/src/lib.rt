@@ -4,11 +4,11 @@
 ghost use Rattle.std.specs.Prelude.{◌≡◌, cond, not, ◌+◌, ◌≤◌, eqb, length, get_or};
 ghost use Rattle.options.specs.Profile.{profile};
 ghost use Rattle.options.specs.IndexClaims.{BuiltFrom};
-ghost use Rattle.dhcpopt_profile.specs.Plain.{plain_profile, ProfileByCase, ProfileKept};
+ghost use Rattle.dhcpopt_profile.specs.Plain.{plain_profile, plain_by, ProfileByCase, ProfileGivenByCase, ProfileKept};
 ghost use Rattle.dhcpopt_profile.specs.Judging.{got, formed_by, reply_by, before_by, size_fits_value, ByLength, turn_at, read_before_value, bit_if, Judges};
 
 use dhcpopt_reader::PlainAnswer;
-use filled::Given;
+use refusal::{Refusal, Rule};
 
 // broken: the rules that are broken, bits 0 to 7; 0 says yes. Number and place of a refusal (0: none); then nothing is said of the rules.
 #[repr(C)]
@@ -19,44 +19,49 @@ pub struct PlainProfile {
     pub place: usize,
 }
 
+impl From<Result<u32, Refusal>> for PlainProfile {
+    ghost from_gives = { λ r p. p ≡ plain_by r };
+
+    fn from(broken: Result<u32, Refusal>) -> PlainProfile {
+        match broken {
+            Ok(broken) => PlainProfile {
+                broken,
+                refusal: 0,
+                place: 0,
+            },
+            Err(Refusal { rule, place }) => PlainProfile {
+                broken: 0,
+                refusal: rule.number(),
+                place,
+            },
+        }
+    }
+}
+
 // Each answer has its own numbers for C, and none is lost.
 pub fn proved()
-    ensures { ProfileByCase × ProfileKept }
+    ensures { ProfileByCase × ProfileGivenByCase × ProfileKept }
 {}
 
 // A code looked up through the index, every code known. Only a code in pieces is: it is walked for.
 fn look(m: &[u8], index: &[u16], code: u8) -> PlainAnswer
     ensures { result ≡ got m.now index.now code }
 {
-    dhcpopt_index::dhcpopt_index_lookup(
-        m,
-        index,
-        18446744073709551615,
-        18446744073709551615,
-        18446744073709551615,
-        18446744073709551615,
-        code,
-    )
+    dhcpopt_index::dhcpopt_index_lookup(m, index, u64::MAX, u64::MAX, u64::MAX, u64::MAX, code)
 }
 
 // There and well-formed: a kind is answered, with its number or its part.
 fn formed(a: PlainAnswer) -> bool
     ensures { result ≡ formed_by a }
 {
-    a.status == 3 || a.status == 4
+    matches!(a.status, 3 | 4)
 }
 
 // Four bytes; or, of a list, four for each address.
 fn size_fits(list: bool, n: u8) -> bool
     ensures { result ≡ size_fits_value list n }
 {
-    if !list {
-        return n == 4;
-    }
-    if n < 4 {
-        return false;
-    }
-    n % 4 == 0
+    if list { 4 <= n && n % 4 == 0 } else { n == 4 }
 }
 
 // Whether a code is there and well-formed, of which the length alone decides. In one piece its length byte follows its place.
@@ -78,10 +83,7 @@ fn well_formed(m: &[u8], index: &[u16], code: u8, list: bool) -> bool
 fn reply_in(a: PlainAnswer) -> bool
     ensures { result ≡ reply_by a }
 {
-    if a.status != 3 {
-        return false;
-    }
-    a.number == 2 || a.number == 5
+    a.status == 3 && matches!(a.number, 2 | 5)
 }
 
 // Message types 2 (offer) and 5 (acknowledge to a request).
@@ -120,7 +122,7 @@ fn before(a: PlainAnswer, b: PlainAnswer) -> bool
     a.offset < b.offset
 }
 
-// The turn in which the field that holds a place is read.
+// The turn in which the field that holds a place is read. A number and no enum: all that is asked of two turns is which comes first.
 fn turn(place: u16) -> u16
     ensures { result ≡ turn_at place }
 {
@@ -163,6 +165,7 @@ fn out_of_order(m: &[u8], index: &[u16]) -> bool
     read_before(router, mask)
 }
 
+// By `if`: a product with `u32::from(broken)` would say the same less plainly.
 fn bit(broken: bool, value: u32) -> u32
     ensures { (result ≡ bit_if broken value) × (result ≤ value) }
 {
@@ -192,43 +195,33 @@ fn held(index: &[u16]) -> u32
     requested + list + size
 }
 
-fn refused(number: u32, place: usize) -> PlainProfile
-    ensures { result ≡ record { broken = 0; refusal = number; place = place } }
-{
-    PlainProfile {
-        broken: 0,
-        refusal: number,
-        place,
-    }
-}
-
-// The rules, by the index of the message.
-fn judged(m: &[u8], index: &[u16]) -> PlainProfile
+// The rules that are broken, by the index of the message; 25 where it is no reply.
+fn judged(m: &[u8], index: &[u16]) -> Result<u32, Refusal>
     requires { BuiltFrom m.now index.now }
     ensures { Judges m.now index.now result }
 {
     if !reply(m, index) {
-        return refused(25, 0);
+        return Err(Rule::NoReply.at(0));
     }
     let formed = unformed(m, index);
     let there = held(index);
     let order = bit(out_of_order(m, index), 128);
-    PlainProfile {
-        broken: formed + there + order,
-        refusal: 0,
-        place: 0,
-    }
+    Ok(formed + there + order)
 }
 
-// Judges a reply. The message is walked once, to build its index; a code in pieces is then looked up by a walk of its own.
+// The same of a message: it is walked once, to build its index; a code in pieces is then looked up by a walk of its own.
+fn judge(m: &[u8]) -> Result<u32, Refusal>
+    ensures { plain_by result ≡ plain_profile (profile m.now) }
+{
+    let mut index = [0u16; 256];
+    index::build_anew(m, &mut index)?;
+    judged(m, &index)
+}
+
+// Judges a reply.
 #[unsafe(no_mangle)]
 pub extern "C" fn dhcpopt_profile(m: &[u8]) -> PlainProfile
     ensures { result ≡ plain_profile (profile m.now) }
 {
-    let mut index = [0u16; 256];
-    let g = index::build_anew(m, &mut index);
-    match g {
-        Given::Refused { number, place } => refused(number, place),
-        Given::Bytes(_) => judged(m, &index),
-    }
+    PlainProfile::from(judge(m))
 }

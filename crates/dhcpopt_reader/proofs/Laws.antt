@@ -1,6 +1,6 @@
 -- Answers of the calls as plain numbers. Assumes nothing.
 use mathlib.Core.Path.{◌≡◌, sym, ap, ◌∙◌}
-use mathlib.Core.Bool.{Bool, true, false, cond}
+use mathlib.Core.Bool.{Bool, cond}
 use mathlib.Core.List.{List}
 use Prim.Native.Nat.{ℕ, ◌+◌, ◌-◌}
 use native.Mathlib.Omega.{arith}
@@ -14,23 +14,8 @@ use Rattle.theorems.proofs.Fields.{option_in_lem}
 use Rattle.theorems.proofs.Lookup.{shows_what_stands}
 use Rattle.theorems.proofs.Pieces.{first_stands}
 use Rattle.theorems.proofs.Lengths.{field_le, message_short}
-use Rattle.options.specs.Answers.{AddressStep, next, done}
-use Rattle.address.specs.Walk.{cursor_of}
-use Rattle.address.specs.declared.Cursor.{Cursor}
-use Rattle.dhcpopt_reader.specs.declared.PlainAddress.{PlainAddress}
 use Rattle.dhcpopt_reader.specs.declared.PlainContent.{PlainContent}
-use Rattle.dhcpopt_reader.specs.Plain.{field_number_value, plain_whole, plain_several, plain_found, Near, plain_address}
-
-clash {ℓ} : {X : Type ℓ} → ◌≡◌ {A = ℕ} 0 1 → X
-clash e = absurd (omega arith)
-
-pub address_given : (at : ℕ) (s : AddressStep) (c : Cursor) → c ≡ cursor_of at s → c.given ≡ true → record { given = 1; address = c.address; next = c.next } ≡ plain_address at s
-address_given at (next a k) c e g = ap (λ (x : Cursor). record { given = 1; address = x.address; next = x.next }) e
-address_given at done c e g = clash (let h : false ≡ true = sym (ap (λ (x : Cursor). x.given) e) ∙ g in cc)
-
-pub address_done : (at : ℕ) (s : AddressStep) (c : Cursor) → c ≡ cursor_of at s → c.given ≡ false → record { given = 0; address = c.address; next = c.next } ≡ plain_address at s
-address_done at (next a k) c e g = clash (let h : true ≡ false = sym (ap (λ (x : Cursor). x.given) e) ∙ g in cc)
-address_done at done c e g = ap (λ (x : Cursor). record { given = 0; address = x.address; next = x.next }) e
+use Rattle.dhcpopt_reader.specs.Plain.{field_number_value, plain_whole, plain_several, plain_found, Near}
 
 -- ---- The lookup's answer
 

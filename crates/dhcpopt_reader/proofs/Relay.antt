@@ -11,38 +11,23 @@ use Rattle.options.specs.Answers.{record_bytes, filled_with}
 use Rattle.options.specs.SubOptions.{sub_options}
 use Rattle.options.specs.Vendor.{Item, Items, listed, past, items_in, item_records}
 use Rattle.options.specs.Relay as asked
-use Rattle.filled.specs.declared.PlainFilled.{PlainFilled}
-use Rattle.filled.specs.Plain.{plain_filled, Kept}
+use Rattle.std.specs.Prelude.{Result}
+use Rattle.refusal.specs.declared.Refusal.{Refusal}
+use Rattle.filled.specs.Plain.{Kept}
 use Rattle.filled.proofs.Kept.{declined_kept, given_kept}
 use Rattle.theorems.proofs.View.{clash}
 use Rattle.filled.specs.Fill.{given_of}
 use Rattle.item_reader.specs.declared.Read.{Read}
-use Rattle.item_reader.specs.Reads.{ReadAs}
-use Rattle.dhcpopt_reader.specs.declared.PlainRelay.{PlainRelay}
-use Rattle.item_reader.specs.declared.Id.{Id}
-use Rattle.item_reader.specs.Walked.{id_as}
-use Rattle.dhcpopt_reader.specs.declared.PlainId.{PlainId}
-use Rattle.dhcpopt_reader.specs.Relay.{plain_id, plain_relay, RelayIsByCase, AbsentIffNoStart, RelayKept}
+use Rattle.item_reader.specs.Reads.{ReadAs, given_in, circuit_in, remote_in}
+use Rattle.item_reader.specs.Walked.{id_of}
+use Rattle.dhcpopt_reader.specs.Relay.{plain_id, plain_relay, read_as, RelayIsByCase, AbsentIffNoStart, RelayKept}
 
 pub relay_is_by_case : RelayIsByCase
 relay_is_by_case b n p s l t m = record { both_named = refl; no_remote = refl; no_circuit = refl; neither = refl; refused = refl }
 
-id_as_lem : (x : asked.Id) → record { start = (id_as x).start; length = (id_as x).length } ≡ plain_id x
-id_as_lem asked.absent = refl
-id_as_lem (asked.named s n) = refl
-
-pub id_of : (y : Id) (x : asked.Id) → y ≡ id_as x → record { start = y.start; length = y.length } ≡ plain_id x
-id_of y x e = ap (λ (z : Id). record { start = z.start; length = z.length }) e ∙ id_as_lem x
-
 -- from the answer that the code holds
-abbrev from : PlainFilled → PlainId → PlainId → PlainRelay
-from g c r = record { refusal = g.refusal; size = g.size; place = g.place; circuit = c; remote = r }
-
-pub plain_read : (x : asked.RelayRead) (y : Read) (after : List ℕ) (g : PlainFilled) → ReadAs x y after → g ≡ plain_filled (given_of y.given)
-    → record { refusal = g.refusal; size = g.size; place = g.place; circuit = record { start = y.circuit.start; length = y.circuit.length }; remote = record { start = y.remote.start; length = y.remote.length } } ≡ plain_relay x
-plain_read x y after g r e =
-    ap (λ (z : PlainFilled). from z (record { start = y.circuit.start; length = y.circuit.length }) (record { start = y.remote.start; length = y.remote.length })) (e ∙ ap plain_filled r.fills.answer)
-    ∙ ap₂ (λ (a b : PlainId). from (plain_filled x.filled.answer) a b) (id_of y.circuit x.circuit r.circuit_is) (id_of y.remote x.remote r.remote_is)
+pub plain_read : (x : asked.RelayRead) (y : Result Read Refusal) (after : List ℕ) → ReadAs x y after → plain_relay (read_as (given_of (given_in y)) [] (id_of (circuit_in y)) (id_of (remote_in y))) ≡ plain_relay x
+plain_read x y after r = rw (r.fills.answer, r.circuit_is, r.remote_is) refl
 
 -- ---- what a refusal leaves
 

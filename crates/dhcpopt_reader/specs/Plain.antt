@@ -6,7 +6,7 @@ use Rattle.options.specs.Answers as asked
 use Rattle.options.specs.Vendor.{vendor_records_value}
 use Rattle.filled.specs.Plain.{Kept}
 use Rattle.ranges.specs.Rows.{number_of}
-use Rattle.present.specs.Marked.{number_of as refusalOf, place_of}
+use Rattle.present.specs.Marked.{number_of as refusalOf, place_of, Shown}
 use Rattle.dhcpopt_reader.specs.declared.PlainAnswer.{PlainAnswer}
 use Rattle.dhcpopt_reader.specs.declared.PlainContent.{PlainContent}
 use Rattle.dhcpopt_reader.specs.declared.PlainExtent.{PlainExtent}
@@ -85,6 +85,10 @@ plain_extent e = record { start = e.start; length = e.size }
 abbrev pub plain_address : ℕ → asked.AddressStep → PlainAddress
 plain_address at (asked.next a after) = record { given = 1; address = a; next = after }
 plain_address at asked.done = record { given = 0; address = 0; next = at }
+
+-- the codes present as numbers, and the same of the answer
+abbrev pub plain_shown : Shown → PlainCodes
+plain_shown x = record { words = x.words; count = x.count; lowest = x.lowest; refusal = x.number; place = x.place }
 
 abbrev pub plain_codes : asked.Present → PlainCodes
 plain_codes r =

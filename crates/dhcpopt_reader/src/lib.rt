@@ -7,18 +7,24 @@ ghost use Rattle.options.specs.CodeSet.{marked};
 ghost use Rattle.options.specs.Answers.{lookup, data_of, text_of, address_step, present};
 ghost use Rattle.message.specs.Fields.{field_of};
 ghost use Rattle.lookup.specs.Shown.{content_of, wholeness_of, origin_of, answer_of, extent_of};
-ghost use Rattle.dhcpopt_reader.specs.Plain.{plain_number, plain_part, plain_content, field_number_value, plain_whole, plain_several, plain_found, plain_refusal, plain_answer, Near, plain_extent, plain_address, plain_codes};
+ghost use Rattle.present.specs.Marked.{shown_by};
+ghost use Rattle.filled.specs.Fill.{given_of};
+ghost use Rattle.item_reader.specs.Walked.{id_of};
+ghost use Rattle.item_reader.specs.Reads.{given_in, circuit_in, remote_in};
+ghost use Rattle.dhcpopt_reader.specs.Plain.{plain_number, plain_part, plain_content, field_number_value, plain_whole, plain_several, plain_found, plain_refusal, plain_answer, Near, plain_extent, plain_address, plain_shown, plain_codes};
 ghost use Rattle.dhcpopt_reader.specs.Plain.{AnswerByCase, ExtentByCase, AddressByCase, CodesByCase, RecordsKept, CopyKept, VendorKept};
 ghost use Rattle.options.specs.Answers as answers;
 ghost use Rattle.filled.specs.Plain.{plain_filled};
 ghost use Rattle.options.specs.Vendor.{vendor_records_value};
 ghost use Rattle.options.specs.Relay.{relay_records_value};
-ghost use Rattle.dhcpopt_reader.specs.Relay.{plain_relay, RelayIsByCase, AbsentIffNoStart, RelayKept};
+ghost use Rattle.dhcpopt_reader.specs.Relay.{plain_id, plain_relay, read_as, RelayIsByCase, AbsentIffNoStart, RelayKept};
 
-use address::Cursor;
 use filled::PlainFilled;
-use lookup::{Answer, Content, Extent, Origin, Wholeness};
+use item_reader::{Id, Read};
+use lookup::{Content, Extent, Found, Wholeness};
 use message::Field;
+use present::Codes;
+use refusal::Refusal;
 
 // status: 0 absent, 1 unknown, 2 refused, 3 a number, 4 a part, 5 broken. kind: 1 to 11 in the order of document 01's table, 12 relay information, 13 classless routes. field: 1 options, 2 file, 3 sname.
 // several: 1 where the option comes in two or more pieces, which then have `whole` bytes together; else 0 and 0.
@@ -136,34 +142,37 @@ pub fn of_part(status: u32, kind: u32, length: usize) -> PlainContent
     }
 }
 
-fn of_content(x: Content) -> PlainContent
-    ensures { result ≡ plain_content (content_of x) }
-{
-    match x {
-        Content::Unknown(n) => of_part(1, 0, n),
-        Content::Broken(number) => PlainContent {
-            status: 5,
-            kind: 0,
-            refusal: number,
-            number: 0,
-            length: 0,
-        },
-        Content::Address(n) => of_number(1, from_unsigned(n)),
-        Content::Addresses(n) => of_part(4, 2, n),
-        Content::Pairs(n) => of_part(4, 3, n),
-        Content::Flag(n) => of_number(4, from_unsigned(n as u32)),
-        Content::Octet(n) => of_number(5, from_unsigned(n as u32)),
-        Content::Number16(n) => of_number(6, from_unsigned(n as u32)),
-        Content::Numbers16(n) => of_part(4, 7, n),
-        Content::Unsigned32(n) => of_number(8, from_unsigned(n)),
-        Content::Signed32(z) => of_number(9, from_signed(z)),
-        Content::Text(n) => of_part(4, 10, n),
-        Content::Opaque(n) => of_part(4, 11, n),
-        Content::Relay(n) => of_part(4, 12, n),
-        Content::Routes(n) => of_part(4, 13, n),
+impl From<Content> for PlainContent {
+    ghost from_gives = { λ x p. p ≡ plain_content (content_of x) };
+
+    fn from(x: Content) -> PlainContent {
+        match x {
+            Content::Unknown(n) => of_part(1, 0, n),
+            Content::Broken(fault) => PlainContent {
+                status: 5,
+                kind: 0,
+                refusal: fault.number(),
+                number: 0,
+                length: 0,
+            },
+            Content::Address(n) => of_number(1, from_unsigned(n)),
+            Content::Addresses(n) => of_part(4, 2, n),
+            Content::Pairs(n) => of_part(4, 3, n),
+            Content::Flag(n) => of_number(4, from_unsigned(u32::from(n))),
+            Content::Octet(n) => of_number(5, from_unsigned(u32::from(n))),
+            Content::Number16(n) => of_number(6, from_unsigned(u32::from(n))),
+            Content::Numbers16(n) => of_part(4, 7, n),
+            Content::Unsigned32(n) => of_number(8, from_unsigned(n)),
+            Content::Signed32(z) => of_number(9, from_signed(z)),
+            Content::Text(n) => of_part(4, 10, n),
+            Content::Opaque(n) => of_part(4, 11, n),
+            Content::Relay(n) => of_part(4, 12, n),
+            Content::Routes(n) => of_part(4, 13, n),
+        }
     }
 }
 
+// The number that C knows a field by.
 pub fn field_number(field: Field) -> u32
     ensures { result ≡ field_number_value (field_of field) }
 {
@@ -201,14 +210,15 @@ fn several_of(x: Wholeness) -> u32
     }
 }
 
-fn of_found(origin: Origin, content: Content) -> PlainAnswer
-    requires { origin.offset ≤ 65536 }
-    ensures { result ≡ plain_found (origin_of origin) (plain_content (content_of content)) }
+fn of_found(found: Found) -> PlainAnswer
+    requires { found.origin.offset ≤ 65536 }
+    ensures { result ≡ plain_found (origin_of found.origin) (plain_content (content_of found.content)) }
 {
-    let c = of_content(content);
-    let field = origin.field;
-    let x = origin.wholeness;
-    let start = message::base(field) + origin.offset + 2;
+    let c = PlainContent::from(found.content);
+    let field = found.origin.field;
+    let offset = found.origin.offset;
+    let x = found.origin.wholeness;
+    let start = message::base(field) + offset + 2;
     PlainAnswer {
         status: c.status,
         kind: c.kind,
@@ -216,7 +226,7 @@ fn of_found(origin: Origin, content: Content) -> PlainAnswer
         field: field_number(field),
         number: c.number,
         place: place_of(c.status, start),
-        offset: origin.offset,
+        offset,
         start,
         length: c.length,
         whole: whole_of(x),
@@ -224,14 +234,15 @@ fn of_found(origin: Origin, content: Content) -> PlainAnswer
     }
 }
 
-fn of_answer(a: Answer) -> PlainAnswer
+// No `From`, which could not ask that the origin is near.
+fn of_answer(a: Result<Option<Found>, Refusal>) -> PlainAnswer
     requires { Near (answer_of a) }
     ensures { result ≡ plain_answer (answer_of a) }
 {
     match a {
-        Answer::Absent => of_refusal(0, 0, 0),
-        Answer::Refused { number, place } => of_refusal(2, number, place),
-        Answer::Found { origin, content } => of_found(origin, content),
+        Ok(None) => of_refusal(0, 0, 0),
+        Ok(Some(found)) => of_found(found),
+        Err(refusal) => of_refusal(2, refusal.rule.number(), refusal.place),
     }
 }
 
@@ -254,12 +265,80 @@ pub fn of_refusal(status: u32, number: u32, place: usize) -> PlainAnswer
     }
 }
 
-fn of_extent(e: Extent) -> PlainExtent
-    ensures { result ≡ plain_extent (extent_of e) }
-{
-    PlainExtent {
-        start: e.start,
-        length: e.len,
+impl From<Extent> for PlainExtent {
+    ghost from_gives = { λ e p. p ≡ plain_extent (extent_of e) };
+
+    fn from(e: Extent) -> PlainExtent {
+        PlainExtent {
+            start: e.start,
+            length: e.len,
+        }
+    }
+}
+
+impl From<Result<Codes, Refusal>> for PlainCodes {
+    ghost from_gives = { λ r p. p ≡ plain_shown (shown_by r) };
+
+    fn from(codes: Result<Codes, Refusal>) -> PlainCodes {
+        match codes {
+            Ok(c) => {
+                let words = c.words;
+                PlainCodes {
+                    words,
+                    count: c.count,
+                    lowest: c.lowest,
+                    refusal: 0,
+                    place: 0,
+                }
+            }
+            Err(r) => PlainCodes {
+                words: [0; 4],
+                count: 0,
+                lowest: 0,
+                refusal: r.rule.number(),
+                place: r.place,
+            },
+        }
+    }
+}
+
+impl From<Option<Id>> for PlainId {
+    ghost from_gives = { λ x p. p ≡ plain_id (id_of x) };
+
+    fn from(id: Option<Id>) -> PlainId {
+        match id {
+            Some(id) => PlainId {
+                start: id.start,
+                length: id.length,
+            },
+            None => PlainId {
+                start: 0,
+                length: 0,
+            },
+        }
+    }
+}
+
+impl From<Result<Read, Refusal>> for PlainRelay {
+    ghost from_gives = { λ r p. p ≡ plain_relay (read_as (given_of (given_in r)) [] (id_of (circuit_in r)) (id_of (remote_in r))) };
+
+    fn from(read: Result<Read, Refusal>) -> PlainRelay {
+        match read {
+            Ok(read) => PlainRelay {
+                refusal: 0,
+                size: read.size,
+                place: 0,
+                circuit: PlainId::from(read.circuit),
+                remote: PlainId::from(read.remote),
+            },
+            Err(Refusal { rule, place }) => PlainRelay {
+                refusal: rule.number(),
+                size: 0,
+                place,
+                circuit: PlainId::from(None),
+                remote: PlainId::from(None),
+            },
+        }
     }
 }
 
@@ -284,7 +363,7 @@ pub extern "C" fn dhcpopt_lookup(
 pub extern "C" fn dhcpopt_data(m: &[u8], code: u8) -> PlainExtent
     ensures { result ≡ plain_extent (data_of m.now code) }
 {
-    of_extent(lookup::data_extent(m, code))
+    PlainExtent::from(lookup::data_extent(m, code))
 }
 
 // Where the text of a code stands, without its trailing zeros.
@@ -300,7 +379,7 @@ pub extern "C" fn dhcpopt_text(
     ensures { result ≡ plain_extent (text_of (marked (k0 ∷ k1 ∷ k2 ∷ k3 ∷ [])) m.now code) }
 {
     let known = [k0, k1, k2, k3];
-    of_extent(lookup::text_extent(m, known, code))
+    PlainExtent::from(lookup::text_extent(m, known, code))
 }
 
 // The address at a place of an address list, and the place after it.
@@ -308,18 +387,17 @@ pub extern "C" fn dhcpopt_text(
 pub extern "C" fn dhcpopt_address_step(list: &[u8], at: usize) -> PlainAddress
     ensures { result ≡ plain_address at (address_step list.now at) }
 {
-    let c = address::step_at(list, at);
-    if c.given {
-        return PlainAddress {
+    match address::step_at(list, at) {
+        Some(e) => PlainAddress {
             given: 1,
-            address: c.address,
-            next: c.next,
-        };
-    }
-    PlainAddress {
-        given: 0,
-        address: c.address,
-        next: c.next,
+            address: e.address,
+            next: e.next,
+        },
+        None => PlainAddress {
+            given: 0,
+            address: 0,
+            next: at,
+        },
     }
 }
 
@@ -328,15 +406,7 @@ pub extern "C" fn dhcpopt_address_step(list: &[u8], at: usize) -> PlainAddress
 pub extern "C" fn dhcpopt_present(m: &[u8]) -> PlainCodes
     ensures { result ≡ plain_codes (present m.now) }
 {
-    let c = present::present(m);
-    let words = c.words;
-    PlainCodes {
-        words,
-        count: c.count,
-        lowest: c.lowest,
-        refusal: c.number,
-        place: c.place,
-    }
+    PlainCodes::from(present::present(m))
 }
 
 // Every code but 52, in the reading order of its first piece, as a record in the buffer out.
@@ -344,7 +414,7 @@ pub extern "C" fn dhcpopt_present(m: &[u8]) -> PlainCodes
 pub extern "C" fn dhcpopt_records(m: &[u8], out: &mut [u8]) -> PlainFilled
     ensures { (result ≡ plain_filled (answers.records m.now out.old).answer) × (out.new ≡ (answers.records m.now out.old).buffer) }
 {
-    filled::plain(records::records(m, out))
+    PlainFilled::from(records::records(m, out))
 }
 
 // The bytes of a code, those of all its pieces end to end, at the front of the buffer out.
@@ -352,7 +422,7 @@ pub extern "C" fn dhcpopt_records(m: &[u8], out: &mut [u8]) -> PlainFilled
 pub extern "C" fn dhcpopt_copy(m: &[u8], code: u8, out: &mut [u8]) -> PlainFilled
     ensures { (result ≡ plain_filled (answers.copy m.now code out.old).answer) × (out.new ≡ (answers.copy m.now code out.old).buffer) }
 {
-    filled::plain(lookup::copy(m, code, out))
+    PlainFilled::from(lookup::copy(m, code, out))
 }
 
 // The items of the bytes of an option 43, each as a record in the buffer out.
@@ -360,7 +430,7 @@ pub extern "C" fn dhcpopt_copy(m: &[u8], code: u8, out: &mut [u8]) -> PlainFille
 pub extern "C" fn dhcpopt_vendor_records(bytes: &[u8], out: &mut [u8]) -> PlainFilled
     ensures { (result ≡ plain_filled (vendor_records_value bytes.now out.old).answer) × (out.new ≡ (vendor_records_value bytes.now out.old).buffer) }
 {
-    filled::plain(item_reader::vendor_records(bytes, out))
+    PlainFilled::from(item_reader::vendor_records(bytes, out))
 }
 
 // The sub-options of the bytes of an option 82, each as a record in the buffer out, and circuit id and remote id (document 02, request 09).
@@ -368,20 +438,5 @@ pub extern "C" fn dhcpopt_vendor_records(bytes: &[u8], out: &mut [u8]) -> PlainF
 pub extern "C" fn dhcpopt_relay_records(bytes: &[u8], out: &mut [u8]) -> PlainRelay
     ensures { (result ≡ plain_relay (relay_records_value bytes.now out.old)) × (out.new ≡ (relay_records_value bytes.now out.old).filled.buffer) }
 {
-    let x = item_reader::relay_records(bytes, out);
-    let given = x.given;
-    let g = filled::plain(given);
-    PlainRelay {
-        refusal: g.refusal,
-        size: g.size,
-        place: g.place,
-        circuit: PlainId {
-            start: x.circuit.start,
-            length: x.circuit.length,
-        },
-        remote: PlainId {
-            start: x.remote.start,
-            length: x.remote.length,
-        },
-    }
+    PlainRelay::from(item_reader::relay_records(bytes, out))
 }

@@ -7,33 +7,18 @@ use Prim.Native.Nat.{ℕ}
 use native.Mathlib.Omega.{arith}
 use Rattle.options.specs.Kinds.{broken, number, part, kinds}
 use Rattle.options.specs.Answers as asked
-use Rattle.options.specs.Routes.{RouteStep, next, done, ignored_in, ignored, unsaid, write_routes}
+use Rattle.options.specs.Routes.{ignored_in, ignored, unsaid, write_routes}
 use Rattle.options.specs.RouteClaims.{WritesRoutes, write_26, write_11, writes}
-use Rattle.theorems.proofs.View.{clash}
 use Rattle.route_theorems.proofs.Numbers.{route_numbers}
 use Rattle.route_theorems.proofs.Written.{route_writer_is_correct}
 use Rattle.filled.specs.Plain.{Kept}
 use Rattle.filled.proofs.Kept.{declined_kept, given_is_kept}
-use Rattle.routes.specs.Walk.{cursor_of}
-use Rattle.routes.specs.declared.Cursor.{Cursor}
 use Rattle.dhcpopt_reader.specs.Plain.{plain_answer}
 use Rattle.dhcpopt_reader.specs.declared.PlainAnswer.{PlainAnswer}
-use Rattle.dhcpopt_routes.specs.declared.PlainRoute.{PlainRoute}
 use Rattle.dhcpopt_routes.specs.declared.PlainIgnored.{PlainIgnored}
 use Rattle.dhcpopt_routes.specs.Plain.{plain_route, plain_ignored, answers_kind, RouteByCase, IgnoredByCase, IgnoredKept, RoutesKept}
 
 -- ---- The walk
-
-abbrev plain_of : ℕ → Cursor → PlainRoute
-plain_of g c = record { given = g; destination = c.destination; width = c.width; router = c.router; next = c.next }
-
-pub route_given : (at : ℕ) (s : RouteStep) (c : Cursor) → c ≡ cursor_of at s → c.given ≡ true → plain_of 1 c ≡ plain_route at s
-route_given at (next r k) c e g = ap (plain_of 1) e
-route_given at done c e g = clash (let h : false ≡ true = sym (ap (λ (x : Cursor). x.given) e) ∙ g in cc)
-
-pub route_done : (at : ℕ) (s : RouteStep) (c : Cursor) → c ≡ cursor_of at s → c.given ≡ false → plain_of 0 c ≡ plain_route at s
-route_done at (next r k) c e g = clash (let h : true ≡ false = sym (ap (λ (x : Cursor). x.given) e) ∙ g in cc)
-route_done at done c e g = ap (plain_of 0) e
 
 pub route_by_case : RouteByCase
 route_by_case at d w r after = (refl, refl)

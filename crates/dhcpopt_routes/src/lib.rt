@@ -9,6 +9,7 @@ ghost use Rattle.filled.specs.Plain.{plain_filled};
 ghost use Rattle.dhcpopt_routes.specs.Plain.{plain_route, plain_ignored, answers_kind, RouteByCase, IgnoredByCase, IgnoredKept, RoutesKept};
 
 use filled::PlainFilled;
+use routes::Entry;
 
 // given: 1 where there is a route, and next is the place behind it; else 0, the numbers are 0, and next is the place asked for.
 #[repr(C)]
@@ -40,33 +41,29 @@ pub fn proved()
 pub extern "C" fn dhcpopt_route_step(bytes: &[u8], at: usize) -> PlainRoute
     ensures { result ≡ plain_route at (route_step bytes.now at) }
 {
-    let s = routes::step_at(bytes, at);
-    if s.given {
-        return PlainRoute {
+    match routes::step_at(bytes, at) {
+        Some(Entry { route, next }) => PlainRoute {
             given: 1,
-            destination: s.destination,
-            width: s.width as u32,
-            router: s.router,
-            next: s.next,
-        };
-    }
-    PlainRoute {
-        given: 0,
-        destination: s.destination,
-        width: s.width as u32,
-        router: s.router,
-        next: s.next,
+            destination: route.destination,
+            width: u32::from(route.width),
+            router: route.router,
+            next,
+        },
+        None => PlainRoute {
+            given: 0,
+            destination: 0,
+            width: 0,
+            router: 0,
+            next: at,
+        },
     }
 }
 
-// 1 for the statuses of an answer with a kind: a number, or a part.
+// 1 for the statuses of an answer with a kind: a number, or a part. They are numbers, since the answer is the one that C gets.
 fn answered(status: u32) -> u32
     ensures { result ≡ answers_kind status }
 {
-    if status == 3 {
-        return 1;
-    }
-    if status == 4 { 1 } else { 0 }
+    u32::from(matches!(status, 3 | 4))
 }
 
 // Whether 3 and 33 are ignored, given the set of known codes: by the lookup of 121, whose number and place of a refusal, or of what is broken, are given on.
@@ -93,5 +90,5 @@ pub extern "C" fn dhcpopt_routes_ignored(
 pub extern "C" fn dhcpopt_routes_write(s: &[u8], out: &mut [u8]) -> PlainFilled
     ensures { (result ≡ plain_filled (write_routes s.now out.old).answer) × (out.new ≡ (write_routes s.now out.old).buffer) }
 {
-    filled::plain(route_writer::write(s, out))
+    PlainFilled::from(route_writer::write(s, out))
 }

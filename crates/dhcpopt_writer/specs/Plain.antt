@@ -4,8 +4,7 @@ use Rattle.options.specs.Writing as options
 use Rattle.options.specs.Vendor.{vendor_write_value}
 use Rattle.options.specs.Relay.{relay_write_value}
 use Rattle.filled.specs.Plain.{Kept}
-use Rattle.plan.specs.declared.Choice.{Choice}
-use Rattle.plan.specs.declared.Choice.TheVariants.{Plan, Refused}
+use Rattle.plan.specs.Answer.{Choice, Plan, Refused}
 use Rattle.dhcpopt_writer.specs.declared.PlainWrote.{PlainWrote}
 
 -- the plan used, or number and place of a refusal

@@ -9,12 +9,14 @@ ghost use Rattle.options.specs.Relay.{relay_write_value};
 ghost use Rattle.options.specs.Grouped as grouped;
 ghost use Rattle.groups.specs.Check.{plain_checked};
 ghost use Rattle.filled.specs.Plain.{plain_filled};
+ghost use Rattle.plan.specs.Answer.{chosen_by};
 ghost use Rattle.dhcpopt_writer.specs.Plain.{plain_wrote, plain_of, WroteByCase, VendorKept, RelayKept};
 ghost use Rattle.dhcpopt_writer.specs.Grouped.{ChoiceKept, MoveKept, BackKept};
 
 use filled::PlainFilled;
 use groups::PlainChecked;
 use plan::Choice;
+use refusal::Refusal;
 
 // refusal: 0 where the sheet was written, and plan is the plan used; else its number, with its place, and the buffer is as it was.
 #[repr(C)]
@@ -30,20 +32,22 @@ pub fn proved()
     ensures { WroteByCase × VendorKept × RelayKept × ChoiceKept × MoveKept × BackKept }
 {}
 
-fn of_choice(c: Choice) -> PlainWrote
-    ensures { result ≡ plain_of c }
-{
-    match c {
-        Choice::Plan { plan, single } => PlainWrote {
-            refusal: 0,
-            plan: plan as u32,
-            place: 0,
-        },
-        Choice::Refused { number, place } => PlainWrote {
-            refusal: number,
-            plan: 0,
-            place,
-        },
+impl From<Result<Choice, Refusal>> for PlainWrote {
+    ghost from_gives = { λ c p. p ≡ plain_of (chosen_by c) };
+
+    fn from(wrote: Result<Choice, Refusal>) -> PlainWrote {
+        match wrote {
+            Ok(choice) => PlainWrote {
+                refusal: 0,
+                plan: u32::from(choice.plan),
+                place: 0,
+            },
+            Err(Refusal { rule, place }) => PlainWrote {
+                refusal: rule.number(),
+                plan: 0,
+                place,
+            },
+        }
     }
 }
 
@@ -52,7 +56,7 @@ fn of_choice(c: Choice) -> PlainWrote
 pub extern "C" fn dhcpopt_write(s: &[u8], m: &mut [u8], permission: u8) -> PlainWrote
     ensures { (result ≡ plain_wrote (options.writer kinds s.now m.old permission)) × (m.new ≡ options.buffer_after m.old (options.writer kinds s.now m.old permission)) }
 {
-    of_choice(writer::write(s, m, permission))
+    PlainWrote::from(writer::write(s, m, permission))
 }
 
 // The items of the records of a sheet, in the buffer out: what an option 43 is to hold.
@@ -60,7 +64,7 @@ pub extern "C" fn dhcpopt_write(s: &[u8], m: &mut [u8], permission: u8) -> Plain
 pub extern "C" fn dhcpopt_vendor_write(s: &[u8], out: &mut [u8]) -> PlainFilled
     ensures { (result ≡ plain_filled (vendor_write_value s.now out.old).answer) × (out.new ≡ (vendor_write_value s.now out.old).buffer) }
 {
-    filled::plain(item_writer::vendor_write(s, out))
+    PlainFilled::from(item_writer::vendor_write(s, out))
 }
 
 // The sub-options of the records of a sheet, in the buffer out: what an option 82 is to hold (document 02, request 09).
@@ -68,7 +72,7 @@ pub extern "C" fn dhcpopt_vendor_write(s: &[u8], out: &mut [u8]) -> PlainFilled
 pub extern "C" fn dhcpopt_relay_write(s: &[u8], out: &mut [u8]) -> PlainFilled
     ensures { (result ≡ plain_filled (relay_write_value s.now out.old).answer) × (out.new ≡ (relay_write_value s.now out.old).buffer) }
 {
-    filled::plain(item_writer::relay_write(s, out))
+    PlainFilled::from(item_writer::relay_write(s, out))
 }
 
 // Checks a grouped file (document 02, request 08).
@@ -76,7 +80,7 @@ pub extern "C" fn dhcpopt_relay_write(s: &[u8], out: &mut [u8]) -> PlainFilled
 pub extern "C" fn dhcpopt_check_grouped(f: &[u8]) -> PlainChecked
     ensures { result ≡ plain_checked (grouped.check f.now) }
 {
-    groups::plain(groups::check(f))
+    PlainChecked::from(groups::check(f))
 }
 
 // Chooses from a grouped file for a class: the records of the groups reached, at the front of the sheet out.
@@ -84,7 +88,7 @@ pub extern "C" fn dhcpopt_check_grouped(f: &[u8]) -> PlainChecked
 pub extern "C" fn dhcpopt_choose(f: &[u8], class: &[u8], out: &mut [u8]) -> PlainFilled
     ensures { (result ≡ plain_filled (grouped.choice f.now class.now out.old).answer) × (out.new ≡ (grouped.choice f.now class.now out.old).buffer) }
 {
-    filled::plain(choice::choose(f, class, out))
+    PlainFilled::from(choice::choose(f, class, out))
 }
 
 // Moves an old sheet into a nameless outermost group, at the front of the buffer out.
@@ -92,7 +96,7 @@ pub extern "C" fn dhcpopt_choose(f: &[u8], class: &[u8], out: &mut [u8]) -> Plai
 pub extern "C" fn dhcpopt_group(s: &[u8], out: &mut [u8]) -> PlainFilled
     ensures { (result ≡ plain_filled (grouped.move s.now out.old).answer) × (out.new ≡ (grouped.move s.now out.old).buffer) }
 {
-    filled::plain(regroup::group(s, out))
+    PlainFilled::from(regroup::group(s, out))
 }
 
 // Takes the sheet back out of a grouped file, at the front of the sheet out.
@@ -100,5 +104,5 @@ pub extern "C" fn dhcpopt_group(s: &[u8], out: &mut [u8]) -> PlainFilled
 pub extern "C" fn dhcpopt_ungroup(f: &[u8], out: &mut [u8]) -> PlainFilled
     ensures { (result ≡ plain_filled (grouped.go_back f.now out.old).answer) × (out.new ≡ (grouped.go_back f.now out.old).buffer) }
 {
-    filled::plain(regroup::ungroup(f, out))
+    PlainFilled::from(regroup::ungroup(f, out))
 }

@@ -1,14 +1,13 @@
--- What a write and a lent part leave of a list of bytes. Assumes nothing.
-use mathlib.Core.Path.{◌≡◌, refl, ap, ◌∙◌}
+-- What a write leaves of the room. Assumes nothing.
+use mathlib.Core.Path.{◌≡◌, refl, sym, ap, ◌∙◌}
 use mathlib.Core.List.{List, [], ◌∷◌, ◌++◌}
-use Prim.Native.Nat.{ℕ, suc, ◌+◌, ◌-◌, ◌<◌, ◌≤◌}
-use native.Mathlib.Numerals.{add-two}
+use Prim.Native.Nat.{ℕ, suc, ◌+◌, ◌<◌, ◌≤◌}
 use native.Mathlib.Omega.{arith}
-use lib.ListN.{length, drop, set, replicate}
+use native.Mathlib.Decide.{dec_lt}
+use lib.ListN.{length, drop, replicate}
 use borrow.Author.Tests.{lt-ltb, le-ltb}
-use borrow.Rule.Slice.PartMut.{put_mid, mid_of}
 use Rattle.buffer.specs.Copy.{copied}
-use Rattle.buffer.proofs.Copied.{mid_rest, put_rest, put_copied}
+use Rattle.buffer.proofs.Copied.{copied_fits, copied_not}
 use Rattle.field_writer.specs.Room.{with_option, end_and_zeros}
 
 -- ---- An option at the start of the room
@@ -26,27 +25,21 @@ module _ (room body : List ℕ) (code : ℕ) (l : length body ≤ 255) where
   unfolding with_option
   with_option_lem h = rw (le-ltb 255 (length body) l, le-ltb (length room) (length body + 2) h)
 
--- two bytes and what a copy left after them
-pub put_head : (room body ys : List ℕ) (code n : ℕ) → length body + 2 ≤ length room
-    → ys ≡ copied (mid_of 2 (length (set (set room 0 code) 1 n) - 2) (set (set room 0 code) 1 n)) body
-    → put_mid 2 (length (set (set room 0 code) 1 n) - 2) (set (set room 0 code) 1 n) ys ≡ (code ∷ n ∷ body) ++ drop (length body + 2) room
-put_head [] body ys code n h e = absurd (omega arith)
-put_head (x ∷ []) body ys code n h e = absurd (omega arith)
-put_head (x ∷ y ∷ room) body ys code n h e =
-    let k : 2 + length body ≡ suc (suc (length body)) = omega arith in
-    put_copied 2 (code ∷ n ∷ room) ys body (omega arith) e ∙ rw (k, add-two)
+  pub option_copied : copied room (code ∷ length body ∷ body) ≡ with_option room code body
+  option_copied = go (dec_lt (length room) (length body + 2))
+    where
+      n : length (code ∷ length body ∷ body) ≡ length body + 2
+      n = omega arith
+
+      go : Dec (length room < length body + 2) → copied room (code ∷ length body ∷ body) ≡ with_option room code body
+      go (yes h) = copied_not room (code ∷ length body ∷ body) (omega (arith, n)) ∙ too_large h
+      go (no h) = copied_fits room (code ∷ length body ∷ body) (omega (arith, n)) ∙ ap (λ (i : ℕ). (code ∷ length body ∷ body) ++ drop i room) n ∙ sym (with_option_lem (omega arith))
 
 -- ---- END and zeros
 
--- END and what a fill left after it
-pub put_end : (room ys : List ℕ) → 1 ≤ length room
-    → ys ≡ replicate (length (mid_of 1 (length (set room 0 255) - 1) (set room 0 255))) 0
-    → put_mid 1 (length (set room 0 255) - 1) (set room 0 255) ys ≡ end_and_zeros (length room)
+pub some_end : (n : ℕ) (zeros : List ℕ) → zeros ≡ replicate n 0 → 255 ∷ zeros ≡ end_and_zeros (suc n)
 unfolding end_and_zeros
-put_end [] ys h e = absurd (omega arith)
-put_end (x ∷ room) ys h e =
-    put_rest 1 (255 ∷ room) ys (omega arith)
-    ∙ ap (λ (l : List ℕ). 255 ∷ l) (e ∙ ap (λ (l : List ℕ). replicate (length l) 0) (mid_rest 1 (255 ∷ room)))
+some_end n zeros e = ap (λ (l : List ℕ). 255 ∷ l) e
 
 pub no_end : (room : List ℕ) → length room ≡ 0 → room ≡ end_and_zeros (length room)
 unfolding end_and_zeros

@@ -8,7 +8,7 @@ use lib.ListN.{length, get_or, take, drop, drop_of_length-le}
 use lib.Seq.{drop-cons}
 use lib.Dec.{eqb}
 use borrow.Author.Tests.{eq-eqb, ne_eqb, lt-ltb, le-ltb}
-use Rattle.options.specs.Answers.{Verdict, passed, refused_with}
+use Rattle.options.specs.Answers.{Verdict, refused_with}
 use Rattle.options.specs.SheetWalk.{Walk, records_from}
 use Rattle.options.specs.Grouped.{none, fault, group_of, body, behind, outermost, file_of, and_then, fault_of, check}
 use Rattle.writing_theorems.proofs.SheetSteps.{size_at, record_here, At, at_end_lem, at_cut, at_record, at_place}
@@ -16,11 +16,8 @@ use Rattle.sheet.specs.Steps.{step_of, walk_by}
 use Rattle.sheet.specs.declared.Step.{Step}
 use Rattle.sheet.specs.declared.Step.TheVariants.{Record}
 use Rattle.sheet.proofs.Steps as steps
-use Rattle.groups.specs.Check.{checked_of}
 use Rattle.groups.specs.Parts.{outermost_size}
-use Rattle.groups.specs.declared.Checked.{Checked}
-use Rattle.groups.specs.declared.Checked.TheVariants.{Passed, Refused}
-use Rattle.groups.proofs.Laws.{data_there, group_then, verdict_of_lem}
+use Rattle.groups.proofs.Laws.{data_there, group_then}
 
 -- ---- The size of the outermost group
 
@@ -114,12 +111,5 @@ module _ (f : List ℕ) (l : length f ≤ 4100) where
       check_group_lem = check_short ∙ ap fault_of (outer f n e z).is_group ∙ group_then (body 4) 0 (drop 3 (take n f)) (behind n (drop n f))
 
       -- by what the check of the group gave
-      pub check_after : (x : Checked) → x ≡ checked_of (fault_of (group_of (body 4) 0 (drop 3 (take n f)) none)) → x ≡ Passed → check f ≡ fault_of (behind n (drop n f))
-      check_after x q p =
-          let v : fault_of (group_of (body 4) 0 (drop 3 (take n f)) none) ≡ passed = verdict_of_lem Passed (fault_of (group_of (body 4) 0 (drop 3 (take n f)) none)) (sym p ∙ q) in
-          check_group_lem ∙ ap (λ (y : Verdict). and_then y (fault_of (behind n (drop n f)))) v
-
-      pub check_refused : (x : Checked) (k i : ℕ) → x ≡ checked_of (fault_of (group_of (body 4) 0 (drop 3 (take n f)) none)) → x ≡ Refused k i → check f ≡ refused_with k i
-      check_refused x k i q p =
-          let v : fault_of (group_of (body 4) 0 (drop 3 (take n f)) none) ≡ refused_with k i = verdict_of_lem (Refused k i) (fault_of (group_of (body 4) 0 (drop 3 (take n f)) none)) (sym p ∙ q) in
-          check_group_lem ∙ ap (λ (y : Verdict). and_then y (fault_of (behind n (drop n f)))) v
+      pub check_after : (v : Verdict) → v ≡ fault_of (group_of (body 4) 0 (drop 3 (take n f)) none) → check f ≡ and_then v (fault_of (behind n (drop n f)))
+      check_after v q = check_group_lem ∙ ap (λ (y : Verdict). and_then y (fault_of (behind n (drop n f)))) (sym q)

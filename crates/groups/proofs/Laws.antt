@@ -22,12 +22,12 @@ use Rattle.sheet.specs.declared.Step.{Step}
 use Rattle.sheet.specs.declared.Step.TheVariants.{Record}
 use Rattle.sheet.specs.declared.Step.TheVariants as step
 use Rattle.sheet.proofs.Steps as steps
-use Rattle.groups.specs.Check.{checked_of, verdict_of, VerdictsComeBack}
-use Rattle.groups.specs.Parts.{members_at_value, given, item_given, items_from, past_records_value, Stops}
-use Rattle.groups.specs.declared.Checked.{Checked}
-use Rattle.groups.specs.declared.Checked.TheVariants.{Passed, Refused}
-use Rattle.groups.specs.declared.Item.{Item}
-use Rattle.groups.specs.declared.Item.TheVariants.{End, Next, Bad}
+use Rattle.std.specs.Prelude.{Result, Ok, Err}
+use Rattle.refusal.specs.declared.Refusal.{Refusal}
+use Rattle.refusal.specs.Refused.{number_of}
+use Rattle.refusal.proofs.Rules.{same_refusal}
+use Rattle.groups.specs.Check.{Checked, Passed, Refused, verdict_by, verdict_of, checked_of, VerdictsComeBack}
+use Rattle.groups.specs.Parts.{members_at_value, Item, End, Next, Bad, given, item_given, items_from, past_records_value, Stops}
 
 verdict_back : (v : Verdict) → verdict_of (checked_of v) ≡ v
 verdict_back passed = refl
@@ -40,9 +40,18 @@ checked_back (Refused n p) = refl
 pub verdicts_come_back : VerdictsComeBack
 verdicts_come_back = (verdict_back, checked_back)
 
--- what a checked verdict says
-pub verdict_of_lem : (c : Checked) (v : Verdict) → c ≡ checked_of v → v ≡ verdict_of c
-verdict_of_lem c v e = sym (verdict_back v) ∙ ap verdict_of (sym e)
+pub answer_back : (c d : Result (Unit {0}) Refusal) → verdict_by c ≡ verdict_by d → c ≡ d
+answer_back (Ok x) (Ok y) e = refl
+answer_back (Ok x) (Err s) e = clash (cc)
+answer_back (Err r) (Ok y) e = clash (cc)
+answer_back (Err r) (Err s) e =
+    let n : number_of r.rule ≡ number_of s.rule = cc in
+    let p : r.place ≡ s.place = cc in
+    ap Err (same_refusal r s n p)
+
+-- the verdict of a refusal by a rule at a place
+pub refused_as : {r x : Refusal} → r ≡ x → refused_with (number_of r.rule) r.place ≡ refused_with (number_of x.rule) x.place
+refused_as e = ap (λ (y : Refusal). refused_with (number_of y.rule) y.place) e
 
 -- ---- An item, and what follows it
 
@@ -130,6 +139,13 @@ module _ (s : List ℕ) (i : ℕ) where
   pub past_by : (x : Step) → x ≡ step_of (records_from i 0 (drop i s)) → past_records_value i (records_from i 0 (drop i s)) ≡ past_records_value i (walk_by s i x)
   past_by x e = ap (past_records_value i) (steps.stepped s i x e).0
 
+  -- no record begins there
+  pub past_ends : (x : Step) → x ≡ step_of (records_from i 0 (drop i s)) → ((t n : ℕ) → x ≡ Record t n → ⊥) → past_records_value i (records_from i 0 (drop i s)) ≡ i
+  unfolding past_records_value
+  past_ends step.End e h = past_by step.End e
+  past_ends step.Cut e h = past_by step.Cut e
+  past_ends (Record t n) e h = absurd (h t n refl)
+
   module _ (tag size : ℕ) (e : Record tag size ≡ step_of (records_from i 0 (drop i s))) where
     past_record : past_records_value i (records_from i 0 (drop i s)) ≡ cond (among tag (0 ∷ 52 ∷ 255 ∷ [])) i (past_records_value (i + 3 + size) (records_from (i + 3 + size) 0 (drop (i + 3 + size) s)))
     unfolding past_records_value
@@ -149,11 +165,6 @@ module _ (s : List ℕ) (i : ℕ) where
 -- the data of the item at a place, of which the part up to its end is lent
 pub data_there : (s : List ℕ) (at size : ℕ) → at + 3 + size ≤ length s → drop (at + 3) (take (at + 3 + size) s) ≡ take size (drop (at + 3) s)
 data_there s at size h = ap (drop (at + 3)) (take-add (at + 3) size s) ∙ drop_at (take (at + 3) s) (take size (drop (at + 3) s)) (at + 3) (length-take-le (at + 3) s (omega arith))
-
--- an item as the check of its group gives it
-abbrev pub item_of_group : ℕ → Checked → Item
-item_of_group next Passed = Next next
-item_of_group next (Refused n p) = Bad n p
 
 module _ (s : List ℕ) (at d : ℕ) where
   -- the step that was taken says what the item is
@@ -190,17 +201,13 @@ module _ (s : List ℕ) (at d : ℕ) where
     unfolding item_given
     is_given = item_by (Record tag size) e ∙ ap (λ (k : ℕ). given (at + 3 + k) (fault_of item)) data_size
 
-    group_given : (v : Verdict) (x : Checked) → x ≡ checked_of v → given (at + 3 + size) v ≡ item_of_group (at + 3 + size) x
-    group_given passed x q = ap (item_of_group (at + 3 + size)) (sym q)
-    group_given (refused_with n p) x q = ap (item_of_group (at + 3 + size)) (sym q)
-
     pub is_group : tag ≡ 0 → item ≡ group_of (body d) at (drop (at + 3) (take (at + 3 + size) s)) none
     is_group z = rw (eq-eqb tag 0 z) (ap (λ (l : List ℕ). group_of (body d) at l none) (sym (data_there s at size item_room)))
 
-    pub item_group : tag ≡ 0 → (x : Checked) → x ≡ checked_of (fault_of (group_of (body d) at (drop (at + 3) (take (at + 3 + size) s)) none))
-        → item_of_group (at + 3 + size) x ≡ item_given d (records_from at 0 (drop at s))
-    item_group z x q =
-        sym (is_given ∙ ap (λ (w : Items). given (at + 3 + size) (fault_of w)) (is_group z) ∙ group_given (fault_of (group_of (body d) at (drop (at + 3) (take (at + 3 + size) s)) none)) x q)
+    -- an item as the check of its group gives it
+    pub item_group : tag ≡ 0 → (x : Verdict) → x ≡ fault_of (group_of (body d) at (drop (at + 3) (take (at + 3 + size) s)) none)
+        → given (at + 3 + size) x ≡ item_given d (records_from at 0 (drop at s))
+    item_group z x q = ap (given (at + 3 + size)) q ∙ sym (is_given ∙ ap (λ (w : Items). given (at + 3 + size) (fault_of w)) (is_group z))
 
     by_tags : (t u v : Bool) → eqb tag 0 ≡ t → eqb tag 52 ≡ u → eqb tag 255 ≡ v
         → item ≡ cond t (group_of (body d) at (take size (drop (at + 3) s)) none) (cond (either u (either v false)) (fault 10 at) (rec at (record { tag = tag; body = take size (drop (at + 3) s) }) none))

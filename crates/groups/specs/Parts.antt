@@ -1,11 +1,23 @@
 -- What the functions below `check` are held to. Assumes nothing.
-use Rattle.std.specs.Prelude.{◌≡◌, List, [], ◌∷◌, cond, ℕ, ◌+◌, length, get_or, drop, eqb, ltb}
+use Rattle.std.specs.Prelude.{◌≡◌, List, [], ◌∷◌, cond, ℕ, ◌+◌, length, get_or, drop, eqb, ltb, Option, Some, None, Result, Ok, Err}
 use Rattle.options.specs.Reading.{among}
 use Rattle.options.specs.Answers.{Verdict, passed, refused_with}
 use Rattle.options.specs.SheetWalk.{Walk, all_read, cut_at, read_at, records_from}
 use Rattle.options.specs.Grouped.{Items, none, item_of, members, body, fault_of}
-use Rattle.groups.specs.declared.Item.{Item}
-use Rattle.groups.specs.declared.Item.TheVariants.{End, Next, Bad}
+use Rattle.refusal.specs.declared.Refusal.{Refusal}
+use Rattle.refusal.specs.Refused.{number_of}
+
+-- what a place in a group's body has: nothing more; an item without a fault, and the place behind it; number and place of the first fault of one
+pub data Item : Type 0 where
+  End : Item
+  Next : (at : ℕ) → Item
+  Bad : (number place : ℕ) → Item
+
+-- the same as the code gives it
+abbrev pub item_told : Result (Option ℕ) Refusal → Item
+item_told (Ok None) = End
+item_told (Ok (Some n)) = Next n
+item_told (Err r) = Bad (number_of r.rule) r.place
 
 -- "one byte n, n bytes of class name": the place behind them, of the group with its tag at `tag` that ends with s; 0 where it is "too short for n and name"
 unfoldable pub members_at_value : List ℕ → ℕ → ℕ

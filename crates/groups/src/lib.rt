@@ -6,19 +6,14 @@ ghost use Rattle.std.specs.Prelude.{◌≡◌, ◌+◌, drop};
 ghost use Rattle.options.specs.SheetWalk.{records_from};
 ghost use Rattle.options.specs.Grouped.{none, group_of, body, fault_of};
 ghost use Rattle.options.specs.Grouped as grouped;
-ghost use Rattle.groups.specs.Check.{checked_of, verdict_of, plain_checked, VerdictsComeBack, CheckedByCase, CheckKept};
-ghost use Rattle.groups.specs.Parts.{members_at_value, outermost_size, item_given, past_records_value, Stops};
+ghost use Rattle.sheet.specs.Places.{unless_0};
+ghost use Rattle.groups.specs.Check.{verdict_by, plain_checked, VerdictsComeBack, AnswersComeBack, CheckedByCase, AnswersByCase, CheckKept};
+ghost use Rattle.groups.specs.Parts.{members_at_value, outermost_size, item_told, item_given, past_records_value, Stops};
 
+use refusal::{Refusal, Rule};
 use sheet::Step;
 
-// Number and place of a refusal, or none.
-#[derive(Clone, Copy)]
-pub enum Checked {
-    Passed,
-    Refused { number: u32, place: usize },
-}
-
-// The same for C. refusal: 0 where there is no fault; else its number, with its place.
+// A verdict for C. refusal: 0 where there is no fault; else its number, with its place.
 #[repr(C)]
 #[derive(Clone, Copy)]
 pub struct PlainChecked {
@@ -26,44 +21,52 @@ pub struct PlainChecked {
     pub place: usize,
 }
 
-// Each case of the verdict, in the code and for C, has the numbers that the rules give it, and none of a refusal is 0.
-pub fn proved()
-    ensures { CheckedByCase × CheckKept × VerdictsComeBack }
-{}
+impl From<Result<(), Refusal>> for PlainChecked {
+    ghost from_gives = { λ c p. p ≡ plain_checked (verdict_by c) };
 
-// What a place in a group's body has: nothing more; an item without a fault, and the place behind it; the first fault of one.
-#[derive(Clone, Copy)]
-pub enum Item {
-    End,
-    Next(usize),
-    Bad { number: u32, place: usize },
+    fn from(checked: Result<(), Refusal>) -> PlainChecked {
+        match checked {
+            Ok(()) => PlainChecked {
+                refusal: 0,
+                place: 0,
+            },
+            Err(Refusal { rule, place }) => PlainChecked {
+                refusal: rule.number(),
+                place,
+            },
+        }
+    }
 }
 
-// The place of a group's first member, behind its name, where s ends with the group; 0 where that is too short for n and name.
-pub fn members_at(s: &[u8], tag: usize) -> usize
-    ensures { result ≡ members_at_value s.now tag }
+// Each case of the verdict, in the code and for C, has the numbers that the rules give it, and none of a refusal is 0.
+pub fn proved()
+    ensures { CheckedByCase × CheckKept × VerdictsComeBack × AnswersByCase × AnswersComeBack }
+{}
+
+// The place of a group's first member, behind its name, where s ends with the group; none where that is too short for n and name.
+pub fn members_at(s: &[u8], tag: usize) -> Option<usize>
+    ensures { result ≡ unless_0 (members_at_value s.now tag) }
 {
     if s.len() < 4 {
-        return 0;
+        return None;
     }
     if s.len() - 4 < tag {
-        return 0;
+        return None;
     }
     let n = num::wide(s[tag + 3]);
     if s.len() - 4 - tag < n {
-        return 0;
+        return None;
     }
-    tag + 4 + n
+    Some(tag + 4 + n)
 }
 
-// The size of the group that a file begins with; 0 where it begins with none that is whole.
-pub fn outermost(f: &[u8]) -> usize
-    ensures { result ≡ outermost_size (records_from 0 0 f.now) }
+// The size of the group that a file begins with; none where it begins with none that is whole.
+pub fn outermost(f: &[u8]) -> Option<usize>
+    ensures { result ≡ unless_0 (outermost_size (records_from 0 0 f.now)) }
 {
     match sheet::next_record(f, 0) {
-        Step::End => 0,
-        Step::Cut => 0,
-        Step::Record { tag, size } => { if tag == 0 { size + 3 } else { 0 } }
+        Step::Record { tag: 0, size } => Some(size + 3),
+        _ => None,
     }
 }
 
@@ -73,138 +76,75 @@ pub fn past_records(s: &[u8], at: usize) -> usize
     ensures { result ≡ past_records_value at (records_from at 0 (drop at s.now)) }
 {
     let mut i = at;
-    loop {
-        match sheet::next_record(s, i) {
-            Step::End => return i,
-            Step::Cut => return i,
-            Step::Record { tag, size } => {
-                if tag == 0 {
-                    return i;
-                }
-                if tag == 52 {
-                    return i;
-                }
-                if tag == 255 {
-                    return i;
-                }
-                i = i + 3 + size;
-            }
+    while let Step::Record { tag, size } = sheet::next_record(s, i) {
+        if tag == 0 || tag == 52 || tag == 255 {
+            return i;
         }
+        i += 3 + size;
     }
+    i
 }
 
 // The members of a group, from the place `at` on to the end of s; the group's tag is at `tag`.
 #[cycle(check_body_check_group_check_item)]
-fn check_body(s: &[u8], at: usize, tag: usize, depth: usize) -> Checked
-    ensures { result ≡ checked_of (fault_of (body depth tag at (drop at s.now))) }
+fn check_body(s: &[u8], at: usize, tag: usize, depth: usize) -> Result<(), Refusal>
+    ensures { verdict_by result ≡ fault_of (body depth tag at (drop at s.now)) }
 {
     if depth == 0 {
-        return Checked::Refused {
-            number: 21,
-            place: tag,
-        };
+        return Err(Rule::TooDeep.at(tag));
     }
     let mut i = at;
-    loop {
-        let past = past_records(s, i);
-        match check_item(s, past, depth - 1) {
-            Item::End => return Checked::Passed,
-            Item::Next(next) => {
-                i = next;
-            }
-            Item::Bad { number, place } => return Checked::Refused { number, place },
-        }
+    while let Some(next) = check_item(s, past_records(s, i), depth - 1)? {
+        i = next;
     }
+    Ok(())
 }
 
-// The item at a place of a group's body where no record is to be passed: a tag other than 0 is a wrong one there.
+// The item at a place of a group's body where no record is to be passed, and the place behind it; none where there is nothing more. A tag other than 0 is
+// a wrong one there.
 #[cycle(check_body_check_group_check_item)]
-fn check_item(s: &[u8], at: usize, depth: usize) -> Item
+fn check_item(s: &[u8], at: usize, depth: usize) -> Result<Option<usize>, Refusal>
     requires { Stops s.now at }
-    ensures { result ≡ item_given depth (records_from at 0 (drop at s.now)) }
+    ensures { item_told result ≡ item_given depth (records_from at 0 (drop at s.now)) }
 {
     match sheet::next_record(s, at) {
-        Step::End => return Item::End,
-        Step::Cut => {
-            return Item::Bad {
-                number: 20,
-                place: at,
-            };
-        }
+        Step::End => Ok(None),
+        Step::Cut => Err(Rule::BadGroup.at(at)),
         Step::Record { tag, size } => {
             if tag != 0 {
-                return Item::Bad {
-                    number: 10,
-                    place: at,
-                };
+                return Err(Rule::BadCode.at(at));
             }
             let next = at + 3 + size;
-            match check_group(&s[..next], at, depth) {
-                Checked::Passed => return Item::Next(next),
-                Checked::Refused { number, place } => return Item::Bad { number, place },
-            }
+            check_group(&s[..next], at, depth)?;
+            Ok(Some(next))
         }
     }
 }
 
 // The group whose tag is at `tag`; s ends with it.
 #[cycle(check_body_check_group_check_item)]
-pub fn check_group(s: &[u8], tag: usize, depth: usize) -> Checked
-    ensures { result ≡ checked_of (fault_of (group_of (body depth) tag (drop (tag + 3) s.now) none)) }
+pub fn check_group(s: &[u8], tag: usize, depth: usize) -> Result<(), Refusal>
+    ensures { verdict_by result ≡ fault_of (group_of (body depth) tag (drop (tag + 3) s.now) none) }
 {
-    let at = members_at(s, tag);
-    if at == 0 {
-        return Checked::Refused {
-            number: 20,
-            place: tag,
-        };
+    match members_at(s, tag) {
+        None => Err(Rule::BadGroup.at(tag)),
+        Some(at) => check_body(s, at, tag, depth),
     }
-    check_body(s, at, tag, depth)
 }
 
 // A file of at most 4,100 bytes that is exactly one group, at most four deep.
-pub fn check(f: &[u8]) -> Checked
-    ensures { result ≡ checked_of (grouped.check f.now) }
+pub fn check(f: &[u8]) -> Result<(), Refusal>
+    ensures { verdict_by result ≡ grouped.check f.now }
 {
     if 4100 < f.len() {
-        return Checked::Refused {
-            number: 16,
-            place: f.len(),
-        };
+        return Err(Rule::SheetTooLong.at(f.len()));
     }
-    let n = outermost(f);
-    if n == 0 {
-        return Checked::Refused {
-            number: 20,
-            place: 0,
-        };
+    let Some(n) = outermost(f) else {
+        return Err(Rule::BadGroup.at(0));
+    };
+    check_group(&f[..n], 0, 4)?;
+    if n < f.len() {
+        return Err(Rule::BadGroup.at(n));
     }
-    match check_group(&f[..n], 0, 4) {
-        Checked::Passed => {
-            if n < f.len() {
-                return Checked::Refused {
-                    number: 20,
-                    place: n,
-                };
-            }
-            Checked::Passed
-        }
-        Checked::Refused { number, place } => Checked::Refused { number, place },
-    }
-}
-
-// A verdict, for C.
-pub fn plain(c: Checked) -> PlainChecked
-    ensures { result ≡ plain_checked (verdict_of c) }
-{
-    match c {
-        Checked::Passed => PlainChecked {
-            refusal: 0,
-            place: 0,
-        },
-        Checked::Refused { number, place } => PlainChecked {
-            refusal: number,
-            place,
-        },
-    }
+    Ok(())
 }

@@ -2,5 +2,4 @@ pub mod Steps
 pub mod Looked
 pub mod Entries
 pub mod Heads
-pub mod Stored
 pub mod Built

@@ -1,24 +1,26 @@
 -- The walk of a field that fills an index: one law for each way through it. Assumes nothing.
-use mathlib.Core.Path.{◌≡◌, refl, sym, ap, ap₂, ◌∙◌, subst}
+use mathlib.Core.Path.{◌≡◌, refl, sym, ap, ◌∙◌, subst}
 use mathlib.Core.Bool.{Bool, true, false, cond, not}
-use mathlib.Core.List.{List, [], ◌∷◌, ◌++◌, append-nil}
-use Prim.Native.Nat.{ℕ, zero, suc, ◌+◌, ◌≤◌, ◌<◌}
+use mathlib.Core.List.{List, [], ◌∷◌, ◌++◌}
+use Prim.Native.Nat.{ℕ, ◌+◌, ◌≤◌, ◌<◌}
 use native.Mathlib.Omega.{arith}
 use native.Mathlib.Decide.{ℕ_discrete}
 use lib.Dec.{eqb, leb}
-use lib.ListN.{length, get_or, set, take, drop, length-set}
+use lib.ListN.{length, get_or, set, length-set}
 use lib.Seq.{get_or-set_same, get_or-set_other}
-use borrow.Author.Tests.{eq-eqb, ne_eqb, eqb-true, eqb-false}
+use borrow.Author.Tests.{ne_eqb, eqb-true, eqb-false}
 use Rattle.options.specs.Message.{Field, options, file, sname, start, bytes, Rec, Opt, place}
-use Rattle.options.specs.Reading.{Parse, ended, ran_out_value, beyond, found, parse, Reading, accepted, refused, more, either, is_options_value, right52, wrong52, second52, judge, items, overload, overload_of, file_in, sname_in, and_then, extend, further, all_fields}
+use Rattle.options.specs.Reading.{Parse, found, parse, Reading, accepted, refused, more, either, is_options_value, right52, judge, items, overload, file_in, sname_in, and_then, extend, further, all_fields}
 use Rattle.theorems.proofs.View.{clash}
 use Rattle.wire.specs.Walk.{item_at}
 use Rattle.wire.proofs.Laws.{rest, rest_none, rest_pad, rest_end, rest_last, rest_long, rest_found}
 use Rattle.message.specs.Active.{active_in}
 use Rattle.message.specs.Walk.{over_stop_value, over_after_value}
-use Rattle.message.specs.Walking.{number_of}
-use Rattle.index.specs.declared.Seen.{Seen}
-use Rattle.index.specs.Filling.{seen_at, seen_refused, entry_after_value, noted, note_all, Marked, Enters, over_from, TellsOver, Notes, reading, Leads, FirstEnd, Looks}
+use Rattle.message.specs.Judging.{number_of, stop_number}
+use Rattle.std.specs.Prelude.{Result, Ok, Err}
+use Rattle.refusal.specs.declared.Refusal.{Refusal}
+use Rattle.refusal.specs.Refused as refusals
+use Rattle.index.specs.Filling.{entry_after_value, noted, note_all, Marked, Enters, over_from, Notes, reading, Leads}
 
 -- ---- the marks
 
@@ -68,13 +70,39 @@ over_none v = go (eqb v 0) refl
     go true e = eqb-true v 0 e
     go false e = refl
 
-notes_more : {over over' : ℕ} {idx : List ℕ} (o : Opt) (w : Reading) {r : Seen} {last : List ℕ} → ((os : List Opt) → over_from over' os ≡ over_from over (o ∷ os))
+notes_more : (over over' : ℕ) (idx : List ℕ) (o : Opt) (w : Reading) (r : Result ℕ Refusal) (last : List ℕ) → ((os : List Opt) → over_from over' os ≡ over_from over (o ∷ os))
     → Notes over' (noted idx o.item.tag (place o)) w r last → Notes over idx (more o w) r last
 unfolding note_all
-notes_more o (accepted os) h n = record { ended = n.ended; enters = n.enters; tells_over = n.tells_over ∙ h os }
-notes_more o (refused k p) h n = record { ended = n.ended; enters = n.enters; tells_over = tt }
+notes_more over over' idx o (accepted os) (Ok v) last h n = (n.0, n.1 ∙ h os)
+notes_more over over' idx o (accepted os) (Err r) last h n = n
+notes_more over over' idx o (refused k p) (Ok v) last h n = n
+notes_more over over' idx o (refused k p) (Err r) last h n = n
 
 -- ---- one option
+
+-- by its number: an option 52 is refused, or not
+pub stops_by : (n s : ℕ) → n ≡ stop_number s → (n ≡ 0 → ⊥) → (s ≡ 0 → ⊥) × (n ≡ number_of s)
+stops_by n s e h = go (eqb s 0) refl e
+  where
+    go : (b : Bool) → eqb s 0 ≡ b → n ≡ cond b 0 (number_of s) → (s ≡ 0 → ⊥) × (n ≡ number_of s)
+    go true q z = absurd (h z)
+    go false q z = (eqb-false s 0 q, z)
+
+number_not : (s : ℕ) → number_of s ≡ 0 → ⊥
+number_not s = go (eqb s 1) (eqb s 2) (eqb s 3)
+  where
+    go : (a b c : Bool) → cond {A = ℕ} a 5 (cond b 4 (cond c 6 7)) ≡ 0 → ⊥
+    go true b c q = omega arith
+    go false true c q = omega arith
+    go false false true q = omega arith
+    go false false false q = omega arith
+
+pub not_stopped : (s : ℕ) → 0 ≡ stop_number s → s ≡ 0
+not_stopped s e = go (eqb s 0) refl e
+  where
+    go : (b : Bool) → eqb s 0 ≡ b → 0 ≡ cond b 0 (number_of s) → s ≡ 0
+    go true q z = eqb-true s 0 q
+    go false q z = absurd (number_not s (sym z))
 
 right_value : (d : List ℕ) → right52 d ≡ true → eqb (get_or d 0 0) 0 ≡ false
 right_value [] e = clash (cc)
@@ -130,28 +158,25 @@ module _ (fd : Field) (over i : ℕ) (x : Rec) (p : Parse) where
 -- ---- at an offset
 
 module _ (fd : Field) (f : List ℕ) (i over : ℕ) (idx : List ℕ) (h : i < length f) where
-  from_reading : {v w : Reading} {o : ℕ} {x : List ℕ} {r : Seen} {last : List ℕ} → v ≡ w → Notes o x w r last → Notes o x v r last
-  from_reading {v} {w} {o} {x} {r} {last} e n = subst (λ (y : Reading). Notes o x y r last) (sym e) n
+  from_reading : {v w : Reading} (o : ℕ) (x : List ℕ) (r : Result ℕ Refusal) (last : List ℕ) → v ≡ w → Notes o x w r last → Notes o x v r last
+  from_reading {v} {w} o x r last e n = subst (λ (y : Reading). Notes o x y r last) (sym e) n
 
   pub at_pad : get_or f i 0 ≡ 0 → Leads fd f i over idx (i + 1) over idx
-  at_pad e r last n = from_reading (ap (judge fd (not (eqb over 0))) (rest_pad f i h e)) n
+  at_pad e r last n = from_reading over idx r last (ap (judge fd (not (eqb over 0))) (rest_pad f i h e)) n
 
-  pub at_end_lem : get_or f i 0 ≡ 255 → Notes over idx (reading fd f over i) (seen_at 0 over) idx
+  pub at_end_lem : get_or f i 0 ≡ 255 → Notes over idx (reading fd f over i) (Ok over) idx
   unfolding judge note_all
-  at_end_lem e = from_reading (ap (judge fd (not (eqb over 0))) (rest_end f i h e)) (record { ended = refl; enters = (refl, refl); tells_over = over_none over })
-
-  refuses : (n p : ℕ) → (n ≡ 0 → ⊥) → reading fd f over i ≡ refused n p → Notes over idx (reading fd f over i) (seen_refused n p) idx
-  refuses n p z e = from_reading e (record { ended = refl; enters = (refl, refl, z); tells_over = tt })
+  at_end_lem e = from_reading over idx (Ok over) idx (ap (judge fd (not (eqb over 0))) (rest_end f i h e)) (refl, over_none over)
 
   module _ (z : get_or f i 0 ≡ 0 → ⊥) (e : get_or f i 0 ≡ 255 → ⊥) where
-    pub at_last : length f ≤ i + 1 → Notes over idx (reading fd f over i) (seen_refused 4 (start fd + i)) idx
+    pub at_last : length f ≤ i + 1 → reading fd f over i ≡ refused 4 (start fd + i)
     unfolding judge
-    at_last l = refuses 4 (start fd + i) (λ q. omega arith) (ap (judge fd (not (eqb over 0))) (rest_last f i h z e l))
+    at_last l = ap (judge fd (not (eqb over 0))) (rest_last f i h z e l)
 
     module _ (g : i + 1 < length f) where
-      pub at_long : length f < i + 2 + get_or f (i + 1) 0 → Notes over idx (reading fd f over i) (seen_refused 4 (start fd + i)) idx
+      pub at_long : length f < i + 2 + get_or f (i + 1) 0 → reading fd f over i ≡ refused 4 (start fd + i)
       unfolding judge
-      at_long l = refuses 4 (start fd + i) (λ q. omega arith) (ap (judge fd (not (eqb over 0))) (rest_long f i h z e g l))
+      at_long l = ap (judge fd (not (eqb over 0))) (rest_long f i h z e g l)
 
       module _ (l : i + 2 + get_or f (i + 1) 0 ≤ length f) where
         abbrev item : Rec
@@ -163,26 +188,17 @@ module _ (fd : Field) (f : List ℕ) (i over : ℕ) (idx : List ℕ) (h : i < le
         found_is : reading fd f over i ≡ judge fd (not (eqb over 0)) (found i item onward)
         found_is = ap (judge fd (not (eqb over 0))) (rest_found f i h z e g l)
 
-        number_not : (s : ℕ) → number_of s ≡ 0 → ⊥
-        number_not s = go (eqb s 1) (eqb s 2) (eqb s 3)
-          where
-            go : (a b c : Bool) → cond {A = ℕ} a 5 (cond b 4 (cond c 6 7)) ≡ 0 → ⊥
-            go true b c q = omega arith
-            go false true c q = omega arith
-            go false false true q = omega arith
-            go false false false q = omega arith
-
-        pub at_stop : (s : ℕ) → s ≡ over_stop_value (is_options_value fd) over (get_or f i 0) item.body → (s ≡ 0 → ⊥)
-            → Notes over idx (reading fd f over i) (seen_refused (number_of s) (start fd + i)) idx
-        at_stop s q n =
-            refuses (number_of s) (start fd + i) (number_not s)
-            (found_is ∙ judge_stops fd over i item onward (λ y. n (q ∙ y)) ∙ ap (λ (k : ℕ). refused (number_of k) (start fd + i)) (sym q))
+        pub at_stop : (n : ℕ) → n ≡ stop_number (over_stop_value (is_options_value fd) over (get_or f i 0) item.body) → (n ≡ 0 → ⊥)
+            → reading fd f over i ≡ refused n (start fd + i)
+        at_stop n q d =
+            let s = stops_by n (over_stop_value (is_options_value fd) over (get_or f i 0) item.body) q d in
+            found_is ∙ judge_stops fd over i item onward s.0 ∙ ap (λ (k : ℕ). refused k (start fd + i)) (sym s.1)
 
         pub at_option : over_stop_value (is_options_value fd) over (get_or f i 0) item.body ≡ 0
             → Leads fd f i over idx (i + 2 + get_or f (i + 1) 0) (over_after_value over (get_or f i 0) item.body) (noted idx (get_or f i 0) (start fd + i))
         at_option q r last n =
             let p = judge_passes fd over i item onward q in
-            from_reading (found_is ∙ p.more_is) (notes_more (here fd over i item onward) (judge fd (not (eqb (over_after_value over (get_or f i 0) item.body) 0)) onward) p.over_is n)
+            from_reading over idx r last (found_is ∙ p.more_is) (notes_more over (over_after_value over (get_or f i 0) item.body) idx (here fd over i item onward) (judge fd (not (eqb (over_after_value over (get_or f i 0) item.body) 0)) onward) r last p.over_is n)
 
         -- of another code than 52, which has no entry yet
         pub at_first : (get_or f i 0 ≡ 52 → ⊥) → get_or idx (get_or f i 0) 0 ≡ 0
@@ -195,11 +211,12 @@ module _ (fd : Field) (f : List ℕ) (i over : ℕ) (idx : List ℕ) (h : i < le
             at_option s r last (rw (v, w) n)
 
 -- no byte is left
-pub at_none : (fd : Field) (f : List ℕ) (i over : ℕ) (idx : List ℕ) → length f ≡ i → Notes over idx (reading fd f over i) (seen_refused 5 (start fd + i)) idx
+pub at_none : (fd : Field) (f : List ℕ) (i over : ℕ) → length f ≡ i → reading fd f over i ≡ refused 5 (start fd + i)
 unfolding judge
-at_none fd f i over idx h =
-    subst (λ (w : Reading). Notes over idx w (seen_refused 5 (start fd + i)) idx) (sym (ap (judge fd (not (eqb over 0))) (rest_none f i (omega arith))))
-    (record { ended = refl; enters = (refl, refl, λ q. omega arith); tells_over = tt })
+at_none fd f i over h = ap (judge fd (not (eqb over 0))) (rest_none f i (omega arith))
+
+pub notes_refused : (over : ℕ) (idx : List ℕ) (w : Reading) (r : Refusal) → w ≡ refused (refusals.number_of r.rule) r.place → Notes over idx w (Err r) idx
+notes_refused over idx w r e = subst (λ (w : Reading). Notes over idx w (Err r) idx) (sym e) (refl, refl)
 
 -- ---- field after field
 
@@ -209,15 +226,18 @@ note_append idx [] ps = refl
 note_append idx (o ∷ os) ps = note_append (noted idx o.item.tag (place o)) os ps
 
 -- one more field, where it is active
-enters_then : (b : Bool) (fd : Field) (m idx : List ℕ) (os : List Opt) (mid : List ℕ) → mid ≡ note_all idx os → (r : Seen) (last : List ℕ)
+enters_then : {A : Type 0} (b : Bool) (fd : Field) (m idx : List ℕ) (os : List Opt) (mid : List ℕ) → mid ≡ note_all idx os → (r : Result A Refusal) (last : List ℕ)
     → Enters mid (cond b (judge fd false (parse 0 0 (bytes fd m))) (accepted [])) r last → Enters idx (extend b fd m (accepted os)) r last
 unfolding note_all
-enters_then false fd m idx os mid e r last n = (n.0, n.1 ∙ e)
-enters_then true fd m idx os mid e r last n = go (judge fd false (parse 0 0 (bytes fd m))) n
+enters_then false fd m idx os mid e (Ok x) last n = n ∙ e
+enters_then false fd m idx os mid e (Err r) last n = n
+enters_then {A = A} true fd m idx os mid e r last n = go (judge fd false (parse 0 0 (bytes fd m))) r n
   where
-    go : (w : Reading) → Enters mid w r last → Enters idx (and_then os w) r last
-    go (accepted ps) x = (x.0, x.1 ∙ ap (λ (l : List ℕ). note_all l ps) e ∙ note_append idx os ps)
-    go (refused n p) x = x
+    go : (w : Reading) (r : Result A Refusal) → Enters mid w r last → Enters idx (and_then os w) r last
+    go (accepted ps) (Ok y) x = x ∙ ap (λ (l : List ℕ). note_all l ps) e ∙ note_append idx os ps
+    go (accepted ps) (Err y) x = x
+    go (refused n p) (Ok y) x = x
+    go (refused n p) (Err y) x = x
 
 pub refused_stays : (b : Bool) (fd : Field) (m : List ℕ) (n p : ℕ) → extend b fd m (refused n p) ≡ refused n p
 refused_stays true fd m n p = refl
@@ -240,66 +260,56 @@ module _ (m idx : List ℕ) where
       all_is (refused n p) e
       ∙ ap (extend (sname_in 0) sname m) (refused_stays (file_in 0) file m n p) ∙ refused_stays (sname_in 0) sname m n p
 
-  pub fill_first : {r : Seen} {last : List ℕ} → Notes 0 idx (reading options (bytes options m) 0 0) r last → (r.number ≡ 0 → ⊥) → (x : List ℕ) → Enters idx (all_fields m) r x
-  fill_first {r} {last} n h x = go first refl n
+  -- options, where it is refused
+  pub fill_first : (A : Type 0) (r : Refusal) (last : List ℕ) → Notes 0 idx (reading options (bytes options m) 0 0) (Err r) last → (x : List ℕ) → Enters {A = A} idx (all_fields m) (Err r) x
+  fill_first A r last n x = go first refl n
     where
-      go : (w : Reading) → first ≡ w → Notes 0 idx w r last → Enters idx (all_fields m) r x
-      go (accepted os) e y = absurd (h y.enters.0)
-      go (refused k p) e y = subst (λ (w : Reading). Enters idx w r x) (sym (all_refused k p e)) y.enters
+      go : (w : Reading) → first ≡ w → Notes 0 idx w (Err r) last → Enters {A = A} idx (all_fields m) (Err r) x
+      go (accepted os) e y = absurd y
+      go (refused k p) e y = subst (λ (w : Reading). Enters {A = A} idx w (Err r) x) (sym (all_refused k p e)) y
 
-  record Read (r : Seen) (mid : List ℕ) : Type 0 where
+  record Read (v : ℕ) (mid : List ℕ) : Type 0 where
     os : List Opt
     is : first ≡ accepted os
-    over_is : r.over ≡ overload (items os)
+    over_is : v ≡ overload (items os)
     mid_is : mid ≡ note_all idx os
 
-  read_first : {r : Seen} {mid : List ℕ} → Notes 0 idx (reading options (bytes options m) 0 0) r mid → r.number ≡ 0 → Read r mid
-  read_first {r} {mid} n h = go first refl n
+  read_first : (v : ℕ) (mid : List ℕ) → Notes 0 idx (reading options (bytes options m) 0 0) (Ok v) mid → Read v mid
+  read_first v mid n = go first refl n
     where
-      go : (w : Reading) → first ≡ w → Notes 0 idx w r mid → Read r mid
-      go (accepted os) e y = record { os = os; is = e; over_is = y.tells_over; mid_is = y.enters.1 }
-      go (refused k p) e y = absurd (y.enters.2 (sym y.enters.0 ∙ h))
+      go : (w : Reading) → first ≡ w → Notes 0 idx w (Ok v) mid → Read v mid
+      go (accepted os) e y = record { os = os; is = e; over_is = y.1; mid_is = y.0 }
+      go (refused k p) e y = absurd y
 
-  -- file, where it is refused
-  pub fill_file : {r s : Seen} {mid last : List ℕ} → Notes 0 idx (reading options (bytes options m) 0 0) r mid → r.number ≡ 0
-      → Notes 0 mid (cond (active_in r.over file) (reading file (bytes file m) 0 0) (accepted [])) s last → (s.number ≡ 0 → ⊥) → (x : List ℕ) → Enters idx (all_fields m) s x
-  fill_file {r} {s} {mid} {last} n h k g x = go (extend (file_in v) file m (accepted y.os)) refl (enters_then (file_in v) file m idx y.os mid y.mid_is s last (rw y.over_is at k.enters))
-    where
-      y : Read r mid
-      y = read_first n h
+  module _ (v : ℕ) (mid : List ℕ) (n : Notes 0 idx (reading options (bytes options m) 0 0) (Ok v) mid) where
+    abbrev y : Read v mid
+    y = read_first v mid n
 
-      v : ℕ
-      v = overload (items y.os)
+    abbrev u : ℕ
+    u = overload (items y.os)
 
-      go : (w : Reading) → extend (file_in v) file m (accepted y.os) ≡ w → Enters idx w s last → Enters idx (all_fields m) s x
-      go (accepted ps) e q = absurd (g q.0)
-      go (refused a b) e q =
-          subst (λ (w : Reading). Enters idx w s x)
-          (sym (all_is (accepted y.os) y.is ∙ ap (extend (sname_in v) sname m) e ∙ refused_stays (sname_in v) sname m a b)) q
+    -- file, where it is refused
+    pub fill_file : (A : Type 0) (r : Refusal) (last : List ℕ) → Enters {A = A} mid (cond (active_in v file) (reading file (bytes file m) 0 0) (accepted [])) (Err r) last
+        → (x : List ℕ) → Enters {A = A} idx (all_fields m) (Err r) x
+    fill_file A r last k x = go (extend (file_in u) file m (accepted y.os)) refl (enters_then (file_in u) file m idx y.os mid y.mid_is (Err r) last (rw y.over_is at k))
+      where
+        go : (w : Reading) → extend (file_in u) file m (accepted y.os) ≡ w → Enters {A = A} idx w (Err r) last → Enters {A = A} idx (all_fields m) (Err r) x
+        go (accepted ps) e q = absurd q
+        go (refused a b) e q =
+            subst (λ (w : Reading). Enters {A = A} idx w (Err r) x)
+            (sym (all_is (accepted y.os) y.is ∙ ap (extend (sname_in u) sname m) e ∙ refused_stays (sname_in u) sname m a b)) q
 
-  pub fill_all : {r s t : Seen} {mid next last : List ℕ} → Notes 0 idx (reading options (bytes options m) 0 0) r mid → r.number ≡ 0
-      → Notes 0 mid (cond (active_in r.over file) (reading file (bytes file m) 0 0) (accepted [])) s next → s.number ≡ 0
-      → Notes 0 next (cond (active_in r.over sname) (reading sname (bytes sname m) 0 0) (accepted [])) t last → Enters idx (all_fields m) t last
-  fill_all {r} {s} {t} {mid} {next} {last} n h k g l = go (extend (file_in v) file m (accepted y.os)) refl (enters_then (file_in v) file m idx y.os mid y.mid_is s next (rw y.over_is at k.enters))
-    where
-      y : Read r mid
-      y = read_first n h
-
-      v : ℕ
-      v = overload (items y.os)
-
-      go : (w : Reading) → extend (file_in v) file m (accepted y.os) ≡ w → Enters idx w s next → Enters idx (all_fields m) t last
-      go (refused a b) e q = absurd (q.2 (sym q.0 ∙ g))
-      go (accepted ps) e q =
-          subst (λ (w : Reading). Enters idx w t last) (sym (all_is (accepted y.os) y.is ∙ ap (extend (sname_in v) sname m) e))
-          (enters_then (sname_in v) sname m idx ps next q.1 t last (rw y.over_is at l.enters))
+    pub fill_all : {A : Type 0} (x : A) (next : List ℕ) → Enters mid (cond (active_in v file) (reading file (bytes file m) 0 0) (accepted [])) (Ok x) next
+        → (t : Result A Refusal) (last : List ℕ) → Enters next (cond (active_in v sname) (reading sname (bytes sname m) 0 0) (accepted [])) t last → Enters idx (all_fields m) t last
+    fill_all {A = A} x next k t last l = go (extend (file_in u) file m (accepted y.os)) refl (enters_then (file_in u) file m idx y.os mid y.mid_is (Ok x) next (rw y.over_is at k))
+      where
+        go : (w : Reading) → extend (file_in u) file m (accepted y.os) ≡ w → Enters idx w (Ok x) next → Enters idx (all_fields m) t last
+        go (refused a b) e q = absurd q
+        go (accepted ps) e q =
+            subst (λ (w : Reading). Enters idx w t last) (sym (all_is (accepted y.os) y.is ∙ ap (extend (sname_in u) sname m) e))
+            (enters_then (sname_in u) sname m idx ps next q t last (rw y.over_is at l))
 
 -- a field that is not active
-pub notes_none : (idx : List ℕ) → Notes 0 idx (accepted []) (seen_at 0 0) idx
-unfolding note_all overload items
-notes_none idx = record { ended = refl; enters = (refl, refl); tells_over = refl }
-
-pub start_low : (fd : Field) → 44 ≤ start fd
-start_low options = omega arith
-start_low file = omega arith
-start_low sname = omega arith
+pub enters_none : {A : Type 0} (x : A) (idx : List ℕ) → Enters idx (accepted []) (Ok x) idx
+unfolding note_all
+enters_none x idx = refl

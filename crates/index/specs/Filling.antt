@@ -1,15 +1,12 @@
 -- How the code fills an index, option after option: no public contract rests on this. While it is filled, the entries of 0, 52 and 255 hold a mark, so that
 -- one test of an entry tells what needs a closer look: a pad, END, option 52, or a code that was met before. Assumes nothing.
-use Rattle.std.specs.Prelude.{◌≡◌, Bool, true, false, cond, not, List, [], ◌∷◌, ℕ, ◌+◌, ◌≤◌, ◌<◌, length, get_or, set, replicate, drop, eqb, ltb, leb}
-use Rattle.options.specs.Message.{Field, start, Opt, place}
-use Rattle.options.specs.Reading.{Reading, accepted, refused, items, overload, is_options_value, judge, parse}
-use Rattle.index.specs.declared.Seen.{Seen}
-
-abbrev pub seen_at : ℕ → ℕ → Seen
-seen_at at over = record { at = at; over = over; number = 0; place = 0 }
-
-abbrev pub seen_refused : ℕ → ℕ → Seen
-seen_refused n p = record { at = 0; over = 0; number = n; place = p }
+use Rattle.std.specs.Prelude.{◌≡◌, cond, not, List, [], ◌∷◌, ℕ, ◌+◌, ◌≤◌, ◌<◌, length, get_or, set, replicate, drop, eqb, Option, Some, None, Result, Ok, Err}
+use Rattle.options.specs.Message.{Field, Opt, place}
+use Rattle.options.specs.Reading.{Reading, accepted, refused, items, overload, judge, parse}
+use Rattle.options.specs.Index.{index_of}
+use Rattle.refusal.specs.declared.Refusal.{Refusal}
+use Rattle.refusal.specs.Refused.{number_of}
+use Rattle.index.specs.declared.Next.{Next}
 
 -- the entry e of the code c after an option with it, at the place p
 abbrev pub entry_after_value : ℕ → ℕ → ℕ → ℕ
@@ -40,23 +37,22 @@ pub record Marked (idx : List ℕ) : Type 0 where
   pub over_marked : get_or idx 52 0 ≡ 0 → ⊥
   pub end_marked : get_or idx 255 0 ≡ 0 → ⊥
 
--- r is what a walk comes to that reads w, and `last` the index that it leaves
-abbrev pub Enters : List ℕ → Reading → Seen → List ℕ → Type 0
-Enters idx (refused n p) r last = (r.number ≡ n) × (r.place ≡ p) × (n ≡ 0 → ⊥)
-Enters idx (accepted os) r last = (r.number ≡ 0) × (last ≡ note_all idx os)
+-- r is what is given of what w reads, and `last` the index that it leaves
+abbrev pub Enters : {A : Type 0} → List ℕ → Reading → Result A Refusal → List ℕ → Type 0
+Enters idx (refused n p) (Err r) last = (number_of r.rule ≡ n) × (r.place ≡ p)
+Enters idx (refused n p) (Ok x) last = ⊥
+Enters idx (accepted os) (Err r) last = ⊥
+Enters idx (accepted os) (Ok x) last = last ≡ note_all idx os
 
--- and with the value of option 52, which was `over` before
+-- and with the value of option 52 (0: not met), which was `over` before
 abbrev pub over_from : ℕ → List Opt → ℕ
 over_from over os = cond (eqb over 0) (overload (items os)) over
 
-abbrev pub TellsOver : ℕ → Reading → Seen → Type 0
-TellsOver over (refused n p) r = Unit {0}
-TellsOver over (accepted os) r = r.over ≡ over_from over os
-
-pub record Notes (over : ℕ) (idx : List ℕ) (w : Reading) (r : Seen) (last : List ℕ) : Type 0 where
-  pub ended : r.at ≡ 0
-  pub enters : Enters idx w r last
-  pub tells_over : TellsOver over w r
+abbrev pub Notes : ℕ → List ℕ → Reading → Result ℕ Refusal → List ℕ → Type 0
+Notes over idx (refused n p) (Err r) last = (number_of r.rule ≡ n) × (r.place ≡ p)
+Notes over idx (refused n p) (Ok v) last = ⊥
+Notes over idx (accepted os) (Err r) last = ⊥
+Notes over idx (accepted os) (Ok v) last = (last ≡ note_all idx os) × (v ≡ over_from over os)
 
 -- what is read of the field fd, whose bytes are f, from the offset i on, where option 52 had the value `over` before
 abbrev pub reading : Field → List ℕ → ℕ → ℕ → Reading
@@ -65,7 +61,7 @@ reading fd f over i = judge fd (not (eqb over 0)) (parse i 0 (drop i f))
 -- what is left from an offset j on, with the value `over'` and the index `idx'`, gives what is left from i on, with those before
 abbrev pub Leads : Field → List ℕ → (i over : ℕ) → List ℕ → (j over' : ℕ) → List ℕ → Type 0
 Leads fd f i over idx j over' idx' =
-    (r : Seen) (last : List ℕ) → Notes over' idx' (reading fd f over' j) r last → Notes over idx (reading fd f over i) r last
+    (r : Result ℕ Refusal) (last : List ℕ) → Notes over' idx' (reading fd f over' j) r last → Notes over idx (reading fd f over i) r last
 
 -- e is the first offset after the option at i, whose code has no entry yet
 pub record FirstEnd (idx f : List ℕ) (i e : ℕ) : Type 0 where
@@ -73,21 +69,31 @@ pub record FirstEnd (idx f : List ℕ) (i e : ℕ) : Type 0 where
   pub within : e ≤ length f
   pub no_entry : get_or idx (get_or f i 0) 0 ≡ 0
 
--- or 0 is told: no more is known then
-abbrev pub EndsFirst : List ℕ → List ℕ → ℕ → ℕ → Type 0
-EndsFirst idx f i e = (e ≡ 0 → ⊥) → FirstEnd idx f i e
-
--- a closer look at the offset i comes to r: the walk ends there, or goes on
-pub record Looks (fd : Field) (f : List ℕ) (i over : ℕ) (idx : List ℕ) (r : Seen) (idx' : List ℕ) : Type 0 where
-  pub ends : r.at ≡ 0 → Notes over idx (reading fd f over i) r idx'
-  pub goes_on : (r.at ≡ 0 → ⊥) → Leads fd f i over idx r.at r.over idx'
-
-pub record LooksAt (options : Bool) (base : ℕ) (f : List ℕ) (i over : ℕ) (idx : List ℕ) (r : Seen) (idx' : List ℕ) : Type 0 where
+-- the walk goes on from the offset i at j
+pub record GoesOn (fd : Field) (f : List ℕ) (i over : ℕ) (idx : List ℕ) (j over' : ℕ) (idx' : List ℕ) : Type 0 where
   pub marks_kept : Marked idx'
-  pub further : (r.at ≡ 0 → ⊥) → (i < r.at) × (r.at ≤ length f)
-  pub looks : (fd : Field) → is_options_value fd ≡ options → start fd ≡ base → Looks fd f i over idx r idx'
+  pub onward : i < j
+  pub within : j ≤ length f
+  pub leads : Leads fd f i over idx j over' idx'
+
+-- or it ends
+pub record Ends (fd : Field) (f : List ℕ) (i over : ℕ) (idx : List ℕ) (r : Result ℕ Refusal) (idx' : List ℕ) : Type 0 where
+  pub marks_kept : Marked idx'
+  pub notes : Notes over idx (reading fd f over i) r idx'
+
+-- a closer look at the offset i comes to r
+abbrev pub LooksAt : Field → List ℕ → (i over : ℕ) → List ℕ → Result (Option Next) Refusal → List ℕ → Type 0
+LooksAt fd f i over idx (Ok (Some x)) idx' = GoesOn fd f i over idx x.at x.over idx'
+LooksAt fd f i over idx (Ok None) idx' = Ends fd f i over idx (Ok over) idx'
+LooksAt fd f i over idx (Err r) idx' = Ends fd f i over idx (Err r) idx'
 
 -- the walk of a field from its first byte on
-pub record Walks (options : Bool) (base : ℕ) (f idx : List ℕ) (r : Seen) (last : List ℕ) : Type 0 where
-  pub marks_kept : Marked last
-  pub notes : (fd : Field) → is_options_value fd ≡ options → start fd ≡ base → Notes 0 idx (reading fd f 0 0) r last
+abbrev pub Walks : Field → List ℕ → List ℕ → Result ℕ Refusal → List ℕ → Type 0
+Walks fd f idx r last = Ends fd f 0 0 idx r last
+
+-- r is what is given of what w reads, and where that is accepted `last` is its index
+abbrev pub Indexes : {A : Type 0} → Reading → Result A Refusal → List ℕ → Type 0
+Indexes (refused n p) (Err r) last = (number_of r.rule ≡ n) × (r.place ≡ p)
+Indexes (refused n p) (Ok x) last = ⊥
+Indexes (accepted os) (Err r) last = ⊥
+Indexes (accepted os) (Ok x) last = last ≡ index_of os

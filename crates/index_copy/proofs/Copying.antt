@@ -29,13 +29,17 @@ use Rattle.theorems.proofs.Pieces.{pieces_right}
 use Rattle.theorems.proofs.Lookup.{asked, no_code_lem}
 use Rattle.theorems.proofs.Copies.{copy_found_lem, copy_joined, copy_refused_by_the_table}
 use Rattle.theorems.proofs.Entries.{built_entry}
-use Rattle.message.specs.Walking.{unfit_of}
+use Rattle.message.specs.Judging.{unfit_of}
 use Rattle.message.proofs.Readings.{fit_length, read_unfit}
 use Rattle.index.proofs.Heads.{head_unfit, head_count, head_fit, code}
 use Rattle.index.proofs.Heads as heads
-use Rattle.filled.specs.declared.Given.TheVariants as coded
+use Rattle.std.specs.Prelude.{Result, Ok, Err}
+use Rattle.refusal.specs.declared.Refusal.{Refusal}
+use Rattle.refusal.specs.declared.Rule.TheVariants.{BadCode, NoRoom, BadIndexCount, BadIndexEntry}
+use Rattle.refusal.specs.Refused.{number_of}
 use Rattle.filled.specs.Fill.{Fills}
-use Rattle.filled.proofs.Answers.{fills_unfilled}
+use Rattle.filled.proofs.Answers.{fills_unfilled, fills_refusal}
+use Rattle.index.proofs.Built.{rule_not}
 use Rattle.dhcpopt_index.proofs.Used.{not_used}
 use Rattle.theorems.proofs.Usable.{usable_used, used_usable}
 use Rattle.theorems.proofs.Indexes.{head_next, accepted_head, piece_place, answers_by_the_words}
@@ -281,28 +285,50 @@ copies_as_plain m idx c old h b = go (no_code c) refl
 -- ---- the cases as the code has them
 
 module _ (m idx : List ℕ) (c : ℕ) (old : List ℕ) where
-  pub of_zero : c ≡ 0 → copy_by m idx c old ≡ unfilled 10 0 old
+  of_zero : c ≡ 0 → copy_by m idx c old ≡ unfilled 10 0 old
   of_zero e = by m idx c old true (rw (eq-eqb c 0 e) refl)
 
-  pub of_end : (c ≡ 0 → ⊥) → c ≡ 255 → copy_by m idx c old ≡ unfilled 10 0 old
+  of_end : (c ≡ 0 → ⊥) → c ≡ 255 → copy_by m idx c old ≡ unfilled 10 0 old
   of_end z e = by m idx c old true (heads.no_code_lem c z e)
 
+  pub no_code_fills : ((c ≡ 0) ⊎ ((c ≡ 0 → ⊥) × (c ≡ 255))) → (r : Refusal) → r ≡ record { rule = BadCode; place = 0 } → Fills (copy_by m idx c old) (Err r) old
+  no_code_fills (inl z) r q = fills_unfilled (copy_by m idx c old) r BadCode 0 old q (of_zero z)
+  no_code_fills (inr x) r q = fills_unfilled (copy_by m idx c old) r BadCode 0 old q (of_end x.0 x.1)
+
   module _ (z : c ≡ 0 → ⊥) (e : c ≡ 255 → ⊥) where
-    pub of_unfit : (n p : ℕ) → n ≡ unfit_of m → (n ≡ 0 → ⊥) → p ≡ cond (eqb n 3) 236 (length m) → copy_by m idx c old ≡ unfilled n p old
-    of_unfit n p q k g =
-        by m idx c old false (code c z e) ∙ head_unfit (λ n p. unfilled n p old) m idx (copy_by_entry m c (get_or idx c 0) old) (λ y. k (q ∙ y))
-        ∙ sym (ap₂ (λ (a b : ℕ). unfilled a b old) q (g ∙ ap (λ (x : ℕ). cond (eqb x 3) 236 (length m)) q))
+    pub unfit_fills : (r : Refusal) → number_of r.rule ≡ unfit_of m → r.place ≡ cond (eqb (unfit_of m) 3) 236 (length m) → Fills (copy_by m idx c old) (Err r) old
+    unfit_fills r q g =
+        fills_refusal (copy_by m idx c old) r old
+        (by m idx c old false (code c z e) ∙ head_unfit (λ n p. unfilled n p old) m idx (copy_by_entry m c (get_or idx c 0) old) (λ y. rule_not r.rule (q ∙ y))
+        ∙ sym (ap₂ (λ (a b : ℕ). unfilled a b old) q g))
 
-    pub of_count : unfit_of m ≡ 0 → (length idx ≡ 256 → ⊥) → copy_by m idx c old ≡ unfilled 18 (length idx) old
-    of_count f n = by m idx c old false (code c z e) ∙ head_count (λ n p. unfilled n p old) m idx (copy_by_entry m c (get_or idx c 0) old) f n
+    module _ (f : unfit_of m ≡ 0) where
+      pub count_fills : (length idx ≡ 256 → ⊥) → (r : Refusal) → r ≡ record { rule = BadIndexCount; place = length idx } → Fills (copy_by m idx c old) (Err r) old
+      count_fills n r q =
+          fills_unfilled (copy_by m idx c old) r BadIndexCount (length idx) old q
+          (by m idx c old false (code c z e) ∙ head_count (λ n p. unfilled n p old) m idx (copy_by_entry m c (get_or idx c 0) old) f n)
 
-    pub of_entry : unfit_of m ≡ 0 → length idx ≡ 256 → copy_by m idx c old ≡ copy_by_entry m c (get_or idx c 0) old
-    of_entry f n = by m idx c old false (code c z e) ∙ head_fit (λ n p. unfilled n p old) m idx (copy_by_entry m c (get_or idx c 0) old) f n
+      -- by the entry at k, which is the code
+      module _ (n : length idx ≡ 256) (k : ℕ) (q : k ≡ c) where
+        entered : copy_by m idx c old ≡ copy_by_entry m c (get_or idx k 0) old
+        entered =
+            by m idx c old false (code c z e) ∙ head_fit (λ n p. unfilled n p old) m idx (copy_by_entry m c (get_or idx c 0) old) f n
+            ∙ ap (λ (j : ℕ). copy_by_entry m c (get_or idx j 0) old) (sym q)
+
+        pub nothing_fills : get_or idx k 0 ≡ 0 → (r : Refusal) → r ≡ record { rule = NoRoom; place = 0 } → Fills (copy_by m idx c old) (Err r) old
+        nothing_fills a r w = fills_unfilled (copy_by m idx c old) r NoRoom 0 old w (entered ∙ of_nothing m c (get_or idx k 0) old a)
+
+        module _ (a : get_or idx k 0 ≡ 0 → ⊥) where
+          pub by_pieces : get_or idx k 0 ≡ 65535 → copy_by m idx c old ≡ copy m c old
+          by_pieces p = entered ∙ of_pieces m c (get_or idx k 0) old a p
+
+          pub by_place : (get_or idx k 0 ≡ 65535 → ⊥) → copy_by m idx c old ≡ entry_copy (get_or idx k 0) (used_entry m c (get_or idx k 0)) old
+          by_place p = entered ∙ of_place m c (get_or idx k 0) old a p
 
 -- an entry that is not used, and one that is
 module _ (m : List ℕ) (c e : ℕ) (old : List ℕ) where
-  pub entry_unused : (Usable m c e → ⊥) → Fills (entry_copy e (used_entry m c e) old) (coded.Refused 19 e) old
-  entry_unused n = fills_unfilled (entry_copy e (used_entry m c e) old) 19 e old (ap (λ (x : Option Opt). entry_copy e x old) (not_used m c e n))
+  pub entry_unused : (Usable m c e → ⊥) → (r : Refusal) → r ≡ record { rule = BadIndexEntry; place = e } → Fills (entry_copy e (used_entry m c e) old) (Err r) old
+  entry_unused n r q = fills_unfilled (entry_copy e (used_entry m c e) old) r BadIndexEntry e old q (ap (λ (x : Option Opt). entry_copy e x old) (not_used m c e n))
 
   pub entry_used : (o : Opt) (d : List ℕ) → used_entry m c e ≡ some o → d ≡ o.item.body → filled_with d old ≡ entry_copy e (used_entry m c e) old
   entry_used o d q b = ap (λ (x : List ℕ). filled_with x old) b ∙ sym (ap (λ (x : Option Opt). entry_copy e x old) q)

@@ -6,90 +6,52 @@ ghost use Rattle.options.specs.Index.{used_entry};
 ghost use Rattle.options.specs.IndexCopy.{entry_copy, copy_by};
 ghost use Rattle.options.specs.IndexCopyClaims.{CopiesByTheWords, CopiesAsPlain};
 ghost use Rattle.filled.specs.Fill.{Fills};
-ghost use Rattle.dhcpopt_index.specs.Found.{span_at_value};
 
-use filled::Given;
-
-// Where the field ends that holds a place of a message of n bytes; 0 where none holds it.
-fn field_end(n: usize, place: usize) -> usize
-    ensures { result ≡ (span_at_value n place).end }
-{
-    if 240 <= place {
-        return n;
-    }
-    if place < 44 {
-        return 0;
-    }
-    if place < 108 {
-        return 108;
-    }
-    if place < 236 {
-        return 236;
-    }
-    0
-}
+use refusal::{Refusal, Rule};
 
 // By an entry that is neither 0 nor 65,535: it is used only if the code, its length byte and its data are there, in one field.
-fn copy_entry(m: &[u8], code: u8, place: usize, out: &mut [u8]) -> Given
+// dhcpopt_index::at_entry makes the same three tests: each refuses with its own type at once, and a function for both would give a third type, which each would match again.
+fn copy_entry(m: &[u8], code: u8, place: usize, out: &mut [u8]) -> Result<usize, Refusal>
     requires { (240 ≤ length m.now) × (place ≤ 65535) }
     ensures { Fills (entry_copy place (used_entry m.now code place) out.old) result out.new }
 {
-    let end = field_end(m.len(), place);
+    let Some(s) = dhcpopt_index::span_at(m.len(), place) else {
+        return Err(Rule::BadIndexEntry.at(place));
+    };
     let start = place + 2;
-    if end < start {
-        return Given::Refused { number: 19, place };
+    if s.end < start {
+        return Err(Rule::BadIndexEntry.at(place));
     }
     if m[place] != code {
-        return Given::Refused { number: 19, place };
+        return Err(Rule::BadIndexEntry.at(place));
     }
     let e = start + num::wide(m[place + 1]);
-    if end < e {
-        return Given::Refused { number: 19, place };
+    if s.end < e {
+        return Err(Rule::BadIndexEntry.at(place));
     }
     filled::give(&m[start..e], out)
 }
 
 // Copies the bytes of a code to the front of a lent buffer, and gives their number. A code in pieces is copied as the plain copy does.
-pub fn copy(m: &[u8], index: &[u16], code: u8, out: &mut [u8]) -> Given
+pub fn copy(m: &[u8], index: &[u16], code: u8, out: &mut [u8]) -> Result<usize, Refusal>
     ensures { Fills (copy_by m.now index.now code out.old) result out.new }
 {
-    if code == 0 {
-        return Given::Refused {
-            number: 10,
-            place: 0,
-        };
+    if code == 0 || code == 255 {
+        return Err(Rule::BadCode.at(0));
     }
-    if code == 255 {
-        return Given::Refused {
-            number: 10,
-            place: 0,
-        };
-    }
-    let number = message::unfit(m);
-    if number != 0 {
-        return Given::Refused {
-            number,
-            place: message::unfit_place(m, number),
-        };
-    }
+    message::fit(m)?;
     let n = index.len();
     if n != 256 {
-        return Given::Refused {
-            number: 18,
-            place: n,
-        };
+        return Err(Rule::BadIndexCount.at(n));
     }
     let entry = index[num::wide(code)];
     if entry == 0 {
-        return Given::Refused {
-            number: 11,
-            place: 0,
-        };
+        return Err(Rule::NoRoom.at(0));
     }
     if entry == 65535 {
         return lookup::copy(m, code, out);
     }
-    copy_entry(m, code, entry as usize, out)
+    copy_entry(m, code, usize::from(entry), out)
 }
 
 // What is proved of the definition.

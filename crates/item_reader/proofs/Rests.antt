@@ -7,9 +7,9 @@ use native.Mathlib.Omega.{arith}
 use lib.ListN.{length, get_or, take, drop, length-drop, drop_of_length-le}
 use lib.Seq.{drop-cons, drop-drop}
 use lib.Dec.{eqb}
-use borrow.Author.Tests.{eq-eqb, ne_eqb, eqb-true, eqb-false}
+use borrow.Author.Tests.{eq-eqb, ne_eqb, eqb-true}
 use Rattle.options.specs.Message.{Rec}
-use Rattle.options.specs.Reading.{Parse, ended, ran_out_value, beyond, found, either}
+use Rattle.options.specs.Reading.{ended, ran_out_value, beyond, found}
 use Rattle.options.specs.SubOptions.{sub_options}
 use Rattle.theorems.proofs.SubOptionRow.{past_head, past_data, stands_in}
 use Rattle.theorems.proofs.View.{clash}

@@ -1,39 +1,45 @@
--- What the walk over sub-options tells, as numbers. Assumes nothing.
-use Rattle.std.specs.Prelude.{List, [], ◌∷◌, Bool, true, false, cond, ℕ, length, eqb}
+-- What the walk over sub-options tells. Assumes nothing.
+use Rattle.std.specs.Prelude.{Bool, true, false, cond, ℕ, length, Option, Some, None, Result, Ok, Err}
 use Rattle.options.specs.Answers.{record_bytes}
 use Rattle.options.specs.Vendor.{Items, listed, past, item_records}
 use Rattle.options.specs.Relay as asked
+use Rattle.refusal.specs.declared.Refusal.{Refusal}
 use Rattle.item_reader.specs.declared.Id.{Id}
-use Rattle.item_reader.specs.declared.Ids.{Ids}
-use Rattle.item_reader.specs.declared.Walked.{Walked}
+use Rattle.item_reader.specs.declared.Read.{Read}
 
-abbrev pub id_with : ℕ → ℕ → Id
-id_with s n = record { start = s; length = n }
-
--- an id as numbers: 0 and 0 where it is absent
-abbrev pub id_as : asked.Id → Id
-id_as asked.absent = id_with 0 0
-id_as (asked.named s n) = id_with s n
+-- an id as the code has it
+abbrev pub id_of : Option Id → asked.Id
+id_of None = asked.absent
+id_of (Some i) = asked.named i.start i.length
 
 -- the first of a code, after a sub-option of that code
-abbrev pub first_id : ℕ → ℕ → ℕ → ℕ → Id
-first_id s l here n = cond (eqb s 0) (id_with here n) (id_with s l)
+abbrev pub first_id : asked.Id → asked.Id → asked.Id
+first_id asked.absent here = here
+first_id (asked.named s n) here = asked.named s n
 
-abbrev pub ids_with : Id → Id → Ids
-ids_with c r = record { circuit = c; remote = r }
+-- an id after a sub-option, which has its code or not
+abbrev pub id_after : asked.Id → Bool → ℕ → ℕ → asked.Id
+id_after x met here n = cond met (first_id x (asked.named here n)) x
 
--- both ids, after a sub-option with the code c
-abbrev pub ids_after_value : (cs cn rs rn c here n : ℕ) → Ids
-ids_after_value cs cn rs rn c here n =
-    cond (eqb c 1) (ids_with (first_id cs cn here n) (id_with rs rn))
-    (cond (eqb c 2) (ids_with (id_with cs cn) (first_id rs rn here n)) (ids_with (id_with cs cn) (id_with rs rn)))
+-- whether a sub-option runs past, and where; else the bytes of the records, and the two ids
+pub record Walked : Type 0 where
+  pub past : Bool
+  pub place : ℕ
+  pub size : ℕ
+  pub circuit : asked.Id
+  pub remote : asked.Id
 
 abbrev pub past_at : ℕ → Walked
-past_at i = record { past = true; place = i; size = 0; circuit = id_with 0 0; remote = id_with 0 0 }
+past_at i = record { past = true; place = i; size = 0; circuit = asked.absent; remote = asked.absent }
 
-abbrev pub walked_with : ℕ → Id → Id → Walked
+abbrev pub walked_with : ℕ → asked.Id → asked.Id → Walked
 walked_with n c r = record { past = false; place = 0; size = n; circuit = c; remote = r }
 
 abbrev pub walked_of : Items → Walked
 walked_of (past i) = past_at i
-walked_of (listed xs) = walked_with (length (record_bytes (item_records xs))) (id_as (asked.id_in 1 xs)) (id_as (asked.id_in 2 xs))
+walked_of (listed xs) = walked_with (length (record_bytes (item_records xs))) (asked.id_in 1 xs) (asked.id_in 2 xs)
+
+-- the same as the code gives it
+abbrev pub walked_by : Result Read Refusal → Walked
+walked_by (Ok r) = walked_with r.size (id_of r.circuit) (id_of r.remote)
+walked_by (Err e) = past_at e.place

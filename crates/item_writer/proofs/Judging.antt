@@ -15,8 +15,7 @@ use Rattle.sheet.specs.Steps.{step_of, walk_by}
 use Rattle.sheet.specs.declared.Step.{Step}
 use Rattle.sheet.specs.declared.Step.TheVariants.{Record, Cut, End}
 use Rattle.sheet.proofs.Steps.{stepped}
-use Rattle.item_writer.specs.declared.Judged.{Judged}
-use Rattle.item_writer.specs.Judge.{sheet_of, wrong_tag_of, broken_rule_value, faulty_at, judge_of}
+use Rattle.item_writer.specs.Judge.{Judged, sheet_of, wrong_tag_of, broken_rule_value, faulty_at, judge_of}
 use Rattle.item_writer.proofs.Ruled.{rules_of, sheet_is, at_record}
 
 -- the verdict, where the items before take `total` bytes

@@ -1,12 +1,20 @@
 -- The verdict on a sheet of items or of sub-options, as a number and a place: no public contract rests on this. Assumes nothing.
-use Rattle.std.specs.Prelude.{List, [], ◌∷◌, Bool, true, false, cond, ℕ, ◌≤◌, length, ltb}
+use Rattle.std.specs.Prelude.{List, [], ◌∷◌, Bool, true, false, cond, ℕ, ◌≤◌, length, ltb, Result, Ok, Err}
 use Rattle.options.specs.Message.{Rec}
 use Rattle.options.specs.Reading.{among}
 use Rattle.options.specs.SheetWalk.{Sheet, sound, faulty}
-use Rattle.options.specs.Writing.{option_bytes}
-use Rattle.options.specs.Vendor.{vendor_sheet}
+use Rattle.options.specs.Answers.{Filled, unfilled}
+use Rattle.options.specs.Writing.{option_bytes, longest_sheet}
+use Rattle.options.specs.Vendor.{vendor_sheet, sheet_given}
 use Rattle.options.specs.Relay.{relay_sheet}
-use Rattle.item_writer.specs.declared.Judged.{Judged}
+use Rattle.refusal.specs.declared.Refusal.{Refusal}
+use Rattle.refusal.specs.Refused.{number_of}
+
+-- number and place of the first faulty record, or 0 and 0, and then the bytes that the items take
+pub record Judged : Type 0 where
+  pub number : ℕ
+  pub place : ℕ
+  pub total : ℕ
 
 -- a sheet of items, which pads and END mark, or of sub-options
 abbrev pub sheet_of : Bool → List ℕ → Sheet
@@ -29,6 +37,15 @@ faulty_at n p = record { number = n; place = p; total = 0 }
 abbrev pub judge_of : Sheet → Judged
 judge_of (faulty n p) = faulty_at n p
 judge_of (sound rs) = record { number = 0; place = 0; total = length (option_bytes rs) }
+
+-- the same as the code gives it
+abbrev pub judged_by : Result ℕ Refusal → Judged
+judged_by (Ok n) = record { number = 0; place = 0; total = n }
+judged_by (Err r) = faulty_at (number_of r.rule) r.place
+
+-- what is given for such a sheet
+abbrev pub write_value : Bool → List ℕ → List ℕ → Filled
+write_value b s out = cond (ltb longest_sheet (length s)) (unfilled 16 (length s) out) (sheet_given (sheet_of b s) out)
 
 -- each record's length goes into one byte
 abbrev pub AllBrief : List Rec → Type 0

@@ -9,76 +9,47 @@ ghost use Rattle.options.specs.Writing.{option_bytes};
 ghost use Rattle.options.specs.Vendor.{longest_vendor, vendor_write_value};
 ghost use Rattle.options.specs.Relay.{relay_write_value};
 ghost use Rattle.buffer.specs.Written.{Written};
+ghost use Rattle.refusal.specs.Refused.{rule_in};
 ghost use Rattle.filled.specs.Fill.{Fills};
-ghost use Rattle.item_writer.specs.Judge.{sheet_of, wrong_tag_of, broken_rule_value, faulty_at, judge_of, AllBrief};
+ghost use Rattle.item_writer.specs.Judge.{sheet_of, wrong_tag_of, broken_rule_value, judge_of, judged_by, write_value, AllBrief};
 
-use filled::Given;
+use refusal::{Refusal, Rule};
 use sheet::Step;
 
-// Number and place of the first faulty record, or 0 and 0, and then the bytes that the items take.
-#[derive(Clone, Copy)]
-pub struct Judged {
-    pub number: u32,
-    pub place: usize,
-    pub total: usize,
+// Whether a tag may not stand: 0 and 255, where they are pad and END, as in vendor information (MARKED).
+fn wrong_tag<const MARKED: bool>(tag: u8) -> bool
+    ensures { result ≡ wrong_tag_of MARKED tag }
+{
+    MARKED && (tag == 0 || tag == 255)
 }
 
-// Whether a tag may not stand: 0 and 255, where they are pad and END, as in vendor information.
-fn wrong_tag(marked: bool, tag: u8) -> bool
-    ensures { result ≡ wrong_tag_of marked tag }
+// Judges a whole record: the first rule that it breaks.
+fn judge_record<const MARKED: bool>(tag: u8, size: usize) -> Result<(), Rule>
+    ensures { rule_in result ≡ broken_rule_value MARKED tag size }
 {
-    if !marked {
-        return false;
-    }
-    if tag == 0 {
-        return true;
-    }
-    tag == 255
-}
-
-// The number of the first rule that a whole record breaks, or 0.
-fn broken_rule(marked: bool, tag: u8, size: usize) -> u32
-    ensures { result ≡ broken_rule_value marked tag size }
-{
-    if wrong_tag(marked, tag) {
-        return 10;
+    if wrong_tag::<MARKED>(tag) {
+        return Err(Rule::BadCode);
     }
     if 255 < size {
-        return 13;
+        return Err(Rule::RecordTooLong);
     }
-    0
+    Ok(())
 }
 
-fn faulty(number: u32, place: usize) -> Judged
-    ensures { result ≡ faulty_at number place }
+// Judges the records in one walk: the first that is faulty, or the bytes that the items take.
+fn judge<const MARKED: bool>(s: &[u8]) -> Result<usize, Refusal>
+    ensures { judged_by result ≡ judge_of (sheet_of MARKED s.now) }
 {
-    Judged {
-        number,
-        place,
-        total: 0,
-    }
-}
-
-// Judges the records in one walk.
-fn judge(marked: bool, s: &[u8]) -> Judged
-    ensures { result ≡ judge_of (sheet_of marked s.now) }
-{
-    let mut total: usize = 0;
-    let mut at: usize = 0;
+    let mut total = 0;
+    let mut at = 0;
+    // No iterator: how far a step goes is read from the bytes.
     loop {
         match sheet::next_record(s, at) {
-            Step::End => {
-                return Judged {
-                    number: 0,
-                    place: 0,
-                    total,
-                };
-            }
-            Step::Cut => return faulty(12, at),
+            Step::End => return Ok(total),
+            Step::Cut => return Err(Rule::RecordTruncated.at(at)),
             Step::Record { tag, size } => {
-                let number = broken_rule(marked, tag, size);
-                if number != 0 {
-                    return faulty(number, at);
+                if let Err(rule) = judge_record::<MARKED>(tag, size) {
+                    return Err(rule.at(at));
                 }
                 total = total + 2 + size;
                 at = at + 3 + size;
@@ -88,7 +59,7 @@ fn judge(marked: bool, s: &[u8]) -> Judged
 }
 
 // Lays the items of the records of s over out from its start on, and gives the place after them. The records are judged: each is whole, and its length is
-// its second length byte.
+// its second length byte. So it walks by that byte alone: `sheet::next_record` would test each head again.
 fn put_items(s: &[u8], out: &mut [u8]) -> usize
     requires { (length (option_bytes (records_left s.now 0)) ≤ length out.old) × AllBrief (records_left s.now 0) × Whole s.now 0 }
     ensures { Written out.old 0 (option_bytes (records_left s.now 0)) result out.new }
@@ -111,69 +82,37 @@ fn put_items(s: &[u8], out: &mut [u8]) -> usize
 fn too_small(n: usize, total: usize) -> bool
     ensures { result ≡ either (ltb longest_vendor total) (ltb n total) }
 {
-    if 255 < total {
-        return true;
-    }
-    n < total
+    255 < total || n < total
 }
 
 // The items of the records of s, in the buffer out: one walk that judges and measures, then one that writes. A refusal changes no byte.
-pub fn vendor_write(s: &[u8], out: &mut [u8]) -> Given
-    ensures { Fills (vendor_write_value s.now out.old) result out.new }
+fn write<const MARKED: bool>(s: &[u8], out: &mut [u8]) -> Result<usize, Refusal>
+    ensures { Fills (write_value MARKED s.now out.old) result out.new }
 {
     if 4096 < s.len() {
-        return Given::Refused {
-            number: 16,
-            place: s.len(),
-        };
+        return Err(Rule::SheetTooLong.at(s.len()));
     }
-    let j = judge(true, s);
-    if j.number != 0 {
-        return Given::Refused {
-            number: j.number,
-            place: j.place,
-        };
+    let total = judge::<MARKED>(s)?;
+    let room = out.len();
+    if too_small(room, total) {
+        return Err(Rule::NoRoom.at(room));
     }
-    let n = out.len();
-    if too_small(n, j.total) {
-        return Given::Refused {
-            number: 11,
-            place: n,
-        };
-    }
-    Given::Bytes(put_items(s, out))
+    Ok(put_items(s, out))
 }
 
-// The sub-options of the records of s, likewise. It is not one function with the other: the compiler then keeps the flag in the loop.
-pub fn relay_write(s: &[u8], out: &mut [u8]) -> Given
+// What an option 43 is to hold.
+pub fn vendor_write(s: &[u8], out: &mut [u8]) -> Result<usize, Refusal>
+    ensures { Fills (vendor_write_value s.now out.old) result out.new }
+{
+    write::<true>(s, out)
+}
+
+// What an option 82 is to hold: at least one sub-option.
+pub fn relay_write(s: &[u8], out: &mut [u8]) -> Result<usize, Refusal>
     ensures { Fills (relay_write_value s.now out.old) result out.new }
 {
-    if s.len() == 0 {
-        return Given::Refused {
-            number: 8,
-            place: 0,
-        };
+    if s.is_empty() {
+        return Err(Rule::BadLength.at(0));
     }
-    if 4096 < s.len() {
-        return Given::Refused {
-            number: 16,
-            place: s.len(),
-        };
-    }
-    let j = judge(false, s);
-    if j.number != 0 {
-        return Given::Refused {
-            number: j.number,
-            place: j.place,
-        };
-    }
-    let room = out.len();
-    if too_small(room, j.total) {
-        return Given::Refused {
-            number: 11,
-            place: room,
-        };
-    }
-    let size = put_items(s, out);
-    Given::Bytes(size)
+    write::<false>(s, out)
 }

@@ -1,35 +1,32 @@
 // Reads vendor information and relay information, and sheets of their items, from standard input, and prints what the calls that C links give of each (tests/items/README.md).
 #![tactic(auto)]
 
-use console::{one, word};
+use dhcpopt_reader::{PlainId, PlainRelay};
 use filled::PlainFilled;
 use message::part;
 use std::io;
-use std::io::{Stdin, Stdout};
+use std::io::Stdout;
 
 // What was given: the bytes, or the refusal; and a sum of the bytes of the buffer past them.
 fn shown(to: Stdout, g: PlainFilled, out: &[u8]) -> io::Result<()> {
     if g.refusal != 0 {
-        console::two(to, b"refused", g.refusal as usize, g.place)?;
+        print!(to; "refused {} {}", g.refusal, g.place)?;
     } else {
-        one(to, b"given", g.size as u64)?;
-        word(to, b" ")?;
+        print!(to; "given {} ", g.size)?;
         console::hex(to, part(out, 0, g.size))?;
     }
-    one(to, b" rest sum", console::sum(part(out, g.size, out.len())))?;
-    word(to, b"\n")
+    println!(to; " rest sum {}", console::sum(part(out, g.size, out.len())))
 }
 
 // Whether what was read back, or its refusal, is the sheet.
 fn same(to: Stdout, sheet: &[u8], g: PlainFilled, out: &[u8]) -> io::Result<()> {
     if g.refusal != 0 {
-        console::two(to, b"back refused", g.refusal as usize, g.place)?;
-    } else if check::same(sheet, part(out, 0, g.size)) {
-        word(to, b"back same")?;
+        println!(to; "back refused {} {}", g.refusal, g.place)
+    } else if sheet == part(out, 0, g.size) {
+        println!(to; "back same")
     } else {
-        word(to, b"back differs")?;
+        println!(to; "back differs")
     }
-    word(to, b"\n")
 }
 
 // Whether the items that were written read as the sheet.
@@ -41,109 +38,88 @@ fn back(to: Stdout, sheet: &[u8], bytes: &[u8]) -> io::Result<()> {
 
 fn read(to: Stdout, bytes: &[u8], out: &mut [u8]) -> io::Result<()> {
     let g = dhcpopt_reader::dhcpopt_vendor_records(bytes, out);
-    shown(to, g, out)?;
-    word(to, b"-\n")
+    shown(to, g, out)
 }
 
 fn write(to: Stdout, sheet: &[u8], out: &mut [u8]) -> io::Result<()> {
     let g = dhcpopt_writer::dhcpopt_vendor_write(sheet, out);
-    let given = g.refusal == 0;
-    let size = g.size;
     shown(to, g, out)?;
-    if given {
-        back(to, sheet, part(out, 0, size))?;
+    if g.refusal == 0 {
+        back(to, sheet, part(out, 0, g.size))?;
     }
-    word(to, b"-\n")
+    Ok(())
 }
 
 // A circuit id or remote id: its start and length, or that it is absent; no data start at 0.
-fn id(to: Stdout, name: &[u8], start: usize, length: usize) -> io::Result<()> {
-    if start == 0 {
-        word(to, name)?;
-        word(to, b" absent")?;
+fn id(to: Stdout, name: &str, id: PlainId) -> io::Result<()> {
+    if id.start == 0 {
+        println!(to; "{name} absent")
     } else {
-        console::two(to, name, start, length)?;
+        println!(to; "{name} {} {}", id.start, id.length)
     }
-    word(to, b"\n")
+}
+
+// How many bytes the sub-options gave, or the refusal.
+fn records(r: PlainRelay) -> PlainFilled {
+    PlainFilled {
+        refusal: r.refusal,
+        size: r.size,
+        place: r.place,
+    }
 }
 
 // Whether the sub-options that were written read as the sheet.
 fn relay_back(to: Stdout, sheet: &[u8], bytes: &[u8]) -> io::Result<()> {
     let mut out = [0u8; 4096];
     let r = dhcpopt_reader::dhcpopt_relay_records(bytes, &mut out);
-    let g = PlainFilled {
-        refusal: r.refusal,
-        size: r.size,
-        place: r.place,
-    };
-    same(to, sheet, g, &out)
+    same(to, sheet, records(r), &out)
 }
 
 fn relay_read(to: Stdout, bytes: &[u8], out: &mut [u8]) -> io::Result<()> {
     let r = dhcpopt_reader::dhcpopt_relay_records(bytes, out);
-    let given = r.refusal == 0;
-    let circuit = r.circuit;
-    let remote = r.remote;
-    let g = PlainFilled {
-        refusal: r.refusal,
-        size: r.size,
-        place: r.place,
-    };
-    shown(to, g, out)?;
-    if given {
-        id(to, b"circuit", circuit.start, circuit.length)?;
-        id(to, b"remote", remote.start, remote.length)?;
+    shown(to, records(r), out)?;
+    if r.refusal == 0 {
+        id(to, "circuit", r.circuit)?;
+        id(to, "remote", r.remote)?;
     }
-    word(to, b"-\n")
+    Ok(())
 }
 
+// As `write`: with the two calls as parameters it would be no shorter.
 fn relay_write(to: Stdout, sheet: &[u8], out: &mut [u8]) -> io::Result<()> {
     let g = dhcpopt_writer::dhcpopt_relay_write(sheet, out);
-    let given = g.refusal == 0;
-    let size = g.size;
     shown(to, g, out)?;
-    if given {
-        relay_back(to, sheet, part(out, 0, size))?;
+    if g.refusal == 0 {
+        relay_back(to, sheet, part(out, 0, g.size))?;
     }
-    word(to, b"-\n")
+    Ok(())
 }
 
-// The lines of one case: 0 reads items, 1 writes them; 2 reads sub-options, any other call writes them.
+// The lines of one case but the last: 0 reads items, 1 writes them; 2 reads sub-options, any other call writes them.
 fn case(to: Stdout, call: u8, bytes: &[u8], out: &mut [u8]) -> io::Result<()> {
-    if call == 0 {
-        return read(to, bytes, out);
+    match call {
+        0 => read(to, bytes, out),
+        1 => write(to, bytes, out),
+        2 => relay_read(to, bytes, out),
+        _ => relay_write(to, bytes, out),
     }
-    if call == 1 {
-        return write(to, bytes, out);
-    }
-    if call == 2 {
-        return relay_read(to, bytes, out);
-    }
-    relay_write(to, bytes, out)
-}
-
-// Reads one case and prints its lines; false at the end of the input.
-fn next(from: Stdin, to: Stdout) -> io::Result<bool> {
-    let mut name = [0u8; 1];
-    let mut bytes = [0u8; 5000];
-    let mut out = [0u8; 5000];
-    let c = console::next(from, &mut name, &mut bytes, &mut out)?;
-    if !c.there {
-        return Ok(false);
-    }
-    let room = c.room;
-    case(to, c.call, part(&bytes, 0, c.size), &mut out[..room])?;
-    Ok(true)
 }
 
 // At most 2,000 cases are read.
 fn main(rt: HostRuntime) -> io::Result<()> {
-    let mut left: usize = 2000;
-    while left > 0 {
-        if !next(rt.stdin(), rt.stdout())? {
-            break;
-        }
-        left = left - 1;
-    }
-    Ok(())
+    let mut name = [0u8; 1];
+    let mut given = [0u8; 5000];
+    let mut out = [0u8; 5000];
+    let to = rt.stdout();
+    console::each(
+        rt.stdin(),
+        2000,
+        &mut name,
+        &mut given,
+        &mut out,
+        |call, _name, bytes, out| {
+            case(to, call, bytes, out)?;
+            println!(to; "-")
+        },
+    )
 }

@@ -1,16 +1,18 @@
 -- What a walk from place i on sees: of a text from its end, of numbers and of addresses from the start. Assumes nothing.
-use mathlib.Core.Path.{◌≡◌, refl, sym, ap, ap₂, ◌∙◌}
-use mathlib.Core.Bool.{true, false}
-use mathlib.Core.List.{List, [], ◌∷◌, ◌++◌}
+use mathlib.Core.Path.{◌≡◌, refl, ap, ap₂, ◌∙◌}
+use mathlib.Core.Bool.{Bool, true, false, cond, ◌&&◌}
+use mathlib.Core.List.{List, [], ◌∷◌}
 use Prim.Native.Nat.{ℕ, zero, suc, ◌+◌, ◌-◌, ◌≤◌, ◌<◌}
 use native.Mathlib.Nat.{add-zero}
 use native.Mathlib.Omega.{arith}
 use borrow.Author.Tests.{le-leb, lt-leb, eq-eqb, ne_eqb}
-use lib.ListN.{length, get_or, take, drop, length-take, length-drop, drop_of_length-le}
-use lib.Seq.{take-suc, length-take-le, get_or-take, get_or-drop, drop-drop, drop-cons}
+use lib.ListN.{length, get_or, take, drop, length-drop, drop_of_length-le}
+use lib.Seq.{take_all, get_or-drop, drop-drop, drop-cons}
+use Rattle.std.specs.List.{list_all}
+use Rattle.options.specs.Reading.{beyond, found, cut, record_of}
 use Rattle.options.specs.SubOptions.{sub_options, fill_fault}
 use Rattle.theorems.proofs.SubOptionRow.{past_head, past_data, stands_in}
-use Rattle.options.specs.Kinds.{trimmed, longer, all_text, from_to_value, pair16, word32, first16, first32, numbers_of, addresses_of, rising, no_zero_first}
+use Rattle.options.specs.Kinds.{both, trimmed, longer, all_text, from_to_value, pair16, word32, first16, first32, numbers_of, addresses_of, rising, no_zero_first}
 
 -- ---- The end of a text
 
@@ -18,34 +20,23 @@ longer_suc : (x n : ℕ) → longer x (suc n) ≡ suc (suc n)
 longer_suc zero n = refl
 longer_suc (suc x) n = refl
 
-trim_zero : (xs : List ℕ) → trimmed (xs ++ (0 ∷ [])) ≡ trimmed xs
+-- of zeros alone nothing is left
+pub trim_none : (t : List ℕ) → ((k : ℕ) → k < length t → get_or t k 0 ≡ 0) → 0 ≡ trimmed t
 unfolding trimmed
-trim_zero [] = refl
-trim_zero (x ∷ xs) = ap (longer x) (trim_zero xs)
+trim_none [] h = refl
+trim_none (x ∷ xs) h =
+    let z : x ≡ 0 = h 0 (omega arith) in
+    rw (z, ← trim_none xs (λ k l. h (suc k) (omega arith)))
 
-trim_end : (xs : List ℕ) (y : ℕ) → trimmed (xs ++ (suc y ∷ [])) ≡ suc (length xs)
+-- the last byte that is not zero ends the text
+pub trim_last : (t : List ℕ) (i : ℕ) → i < length t → (get_or t i 0 ≡ 0 → ⊥) → ((k : ℕ) → i + 1 ≤ k → k < length t → get_or t k 0 ≡ 0) → i + 1 ≡ trimmed t
 unfolding trimmed
-trim_end [] y = refl
-trim_end (x ∷ xs) y = ap (longer x) (trim_end xs y) ∙ longer_suc x (length xs)
-
--- a zero at the end is left off
-pub trim_drop : (t : List ℕ) (k : ℕ) → 0 < k → k ≤ length t → get_or t (k - 1) 0 ≡ 0 → trimmed (take (k - 1) t) ≡ trimmed (take k t)
-trim_drop t zero p h e = absurd (omega arith)
-trim_drop t (suc j) p h e =
-    let q : suc j - 1 ≡ j = omega arith in
-    let z : get_or t j 0 ≡ 0 = rw q at e in
-    rw (q, take-suc t j 0 h, z) (sym (trim_zero (take j t)))
-
--- any other byte ends the text
-pub trim_stop : (t : List ℕ) (k : ℕ) → 0 < k → k ≤ length t → (get_or t (k - 1) 0 ≡ 0 → ⊥) → trimmed (take k t) ≡ k
-trim_stop t zero p h e = absurd (omega arith)
-trim_stop t (suc j) p h e =
-    let q : suc j - 1 ≡ j = omega arith in
-    rw (take-suc t j 0 h) (ends (get_or t j 0) (λ z. e (rw q z)))
-  where
-    ends : (y : ℕ) → (y ≡ 0 → ⊥) → trimmed (take j t ++ (y ∷ [])) ≡ suc j
-    ends zero n = absurd (n refl)
-    ends (suc y) n = trim_end (take j t) y ∙ ap suc (length-take-le j t (omega arith))
+trim_last [] i l n h = absurd (omega arith)
+trim_last (zero ∷ xs) zero l n h = absurd (n refl)
+trim_last (suc x ∷ xs) zero l n h = rw (← trim_none xs (λ k m. h (suc k) (omega arith) (omega arith)))
+trim_last (x ∷ xs) (suc i) l n h =
+    let e : suc i ≡ trimmed xs = omega (arith, trim_last xs i (omega arith) n (λ k a m. h (suc k) (omega arith) (omega arith))) in
+    rw (← e, longer_suc x i) (omega arith)
 
 longer_most : (x n : ℕ) → longer x n ≤ suc n
 longer_most zero zero = omega arith
@@ -59,24 +50,16 @@ unfolding trimmed
 trimmed_within [] = omega arith
 trimmed_within (x ∷ xs) = omega (arith, longer_most x (trimmed xs), trimmed_within xs)
 
--- ---- The bytes of a text of length n, from i on
+-- ---- The bytes of a text
 
-module _ (t : List ℕ) (n i : ℕ) where
-  pub text_end : n ≤ i → all_text (drop i (take n t)) ≡ true
-  unfolding all_text
-  text_end h = rw (drop_of_length-le (take n t) {i = i} (omega (arith, length-take n t)))
-
-  module _ (h : i < n) (l : n ≤ length t) where
-    head : drop i (take n t) ≡ get_or t i 0 ∷ drop (suc i) (take n t)
-    head = drop-cons (take n t) i 0 (omega (arith, length-take-le n t l)) ∙ rw (get_or-take n t i 0 h)
-
-    pub text_stop : from_to_value 1 127 (get_or t i 0) ≡ false → all_text (drop i (take n t)) ≡ false
-    unfolding all_text
-    text_stop e = rw (head, e)
-
-    pub text_next : from_to_value 1 127 (get_or t i 0) ≡ true → all_text (drop i (take n t)) ≡ all_text (drop (i + 1) (take n t))
-    unfolding all_text
-    text_next e = let z : suc i ≡ i + 1 = omega arith in rw (head, e, ← z)
+pub all_is_text : (xs : List ℕ) → list_all (from_to_value 1 127) xs ≡ all_text xs
+unfolding all_text
+all_is_text [] = refl
+all_is_text (x ∷ xs) = rw (all_is_text xs) (both_is (from_to_value 1 127 x) (all_text xs))
+  where
+    both_is : (a b : Bool) → (a && b) ≡ both a b
+    both_is true b = refl
+    both_is false b = refl
 
 -- ---- The numbers and the addresses from i on
 
@@ -162,7 +145,32 @@ first_next f i g h =
     let e : i + 4 + 4 ≡ i + 8 = omega arith in
     rw (addresses_next f i (omega arith), addresses_next f (i + 4) (omega arith), ne_eqb (whole f i) 0 h, e)
 
+-- a part that is lent to its end
+pub rest_is : (f : List ℕ) (n m : ℕ) → length f ≤ n + m → take m (drop n f) ≡ drop n f
+rest_is f n m h = take_all m (drop n f) (omega (arith, length-drop n f))
+
+pub rest_twice : (f : List ℕ) (m k : ℕ) → length f ≤ 4 + m → length f ≤ 8 + k → take k (drop 4 (take m (drop 4 f))) ≡ drop 8 f
+rest_twice f m k h l = ap (λ (xs : List ℕ). take k (drop 4 xs)) (rest_is f 4 m h) ∙ ap (take k) (drop-drop 4 4 f) ∙ rest_is f 8 k l
+
+pub rest_behind : (f : List ℕ) (n m k : ℕ) → length f ≤ 2 + m → length f ≤ 2 + n + k → take k (drop n (take m (drop 2 f))) ≡ drop (n + 2) f
+rest_behind f n m k h l =
+    let e : 2 + n ≡ n + 2 = omega arith in
+    ap (λ (xs : List ℕ). take k (drop n xs)) (rest_is f 2 m h) ∙ ap (take k) (drop-drop n 2 f) ∙ rest_is f (2 + n) k l ∙ ap (λ (j : ℕ). drop j f) e
+
 -- ---- The sub-options from a place on
+
+-- their offsets change nothing
+shift : (xs : List ℕ) (i j skip : ℕ) → fill_fault (sub_options i skip xs) ≡ fill_fault (sub_options j skip xs)
+unfolding sub_options fill_fault
+shift [] i j zero = refl
+shift [] i j (suc k) = refl
+shift (b ∷ bs) i j (suc k) = shift bs (i + 1) (j + 1) k
+shift (b ∷ bs) i j zero = go (cut bs) (shift bs (i + 1) (j + 1) (suc (get_or bs 0 0)))
+  where
+    go : (c : Bool) → fill_fault (sub_options (i + 1) (suc (get_or bs 0 0)) bs) ≡ fill_fault (sub_options (j + 1) (suc (get_or bs 0 0)) bs)
+        → fill_fault (cond c (beyond i) (found i (record_of b bs) (sub_options (i + 1) (suc (get_or bs 0 0)) bs))) ≡ fill_fault (cond c (beyond j) (found j (record_of b bs) (sub_options (j + 1) (suc (get_or bs 0 0)) bs)))
+    go true e = refl
+    go false e = e
 
 pub subs_end : (d : List ℕ) (at : ℕ) → length d ≤ at → fill_fault (sub_options at 0 (drop at d)) ≡ 0
 unfolding sub_options fill_fault
@@ -202,3 +210,6 @@ module _ (d : List ℕ) (at : ℕ) (h : at + 1 < length d) where
       ap (λ (xs : List ℕ). fill_fault (sub_options at 0 xs)) sub_heads
       ∙ ap fill_fault (stands_in at (get_or d at 0) size (drop (at + 2) d) (omega (arith, behind_head)))
       ∙ ap₂ (λ (i : ℕ) (xs : List ℕ). fill_fault (sub_options i 0 xs)) e g
+
+  pub subs_rest : size + 2 ≤ length d - at → fill_fault (sub_options at 0 (drop at d)) ≡ fill_fault (sub_options 0 0 (drop (at + (size + 2)) d))
+  subs_rest l = subs_next l ∙ shift (drop (at + (size + 2)) d) (at + (size + 2)) 0 0

@@ -5,8 +5,30 @@ ghost use Rattle.std.specs.Prelude.{◌≡◌, [], ◌∷◌, ◌<◌, ◌≤◌
 ghost use Rattle.options.specs.Reading.{among};
 ghost use Rattle.options.specs.Kinds.{kind_of, multiples, is_length, addresses_of, numbers_of, rising, no_zero_first, trimmed, from_to_value, text_fits_value, or_nine_value};
 ghost use Rattle.options.specs.SubOptions.{sub_options, fill_fault};
-ghost use Rattle.kinds.specs.Numbers.{kind_number, row_at, kind_numbered, fault_of, fault_numbered, length_fits_value, value_fault_in, is_list_value, list_fault_value, short_list_fault_value, long_list_fault_value, number_fault_value, NumbersKeepTheKind, FaultsKeepTheNumber};
+ghost use Rattle.refusal.specs.Refused.{fault_or_none};
+ghost use Rattle.kinds.specs.Numbers.{row_at, kind_numbered, kind_from, fault_of, fault_numbered, length_fits_value, value_fault_in, is_list_value, list_fault_value, short_list_fault_value, long_list_fault_value, number_fault_value, NumbersKeepTheKind, FaultsKeepTheNumber};
+ghost use Rattle.kinds.specs.Named.{kind_given};
 ghost use Rattle.kinds.specs.Parts.{octet_fits_value, number16_fits_value};
+
+use refusal::Fault;
+
+// The kinds of options (document 01, The kinds, by code); Relay is that of relay information (document 02, request 09), Routes that of classless routes (request 14).
+#[derive(Clone, Copy, Debug, PartialEq, Eq)]
+pub enum OptionKind {
+    Address,
+    Addresses,
+    Pairs,
+    Flag,
+    Octet,
+    Number16,
+    Numbers16,
+    Unsigned32,
+    Signed32,
+    Text,
+    Opaque,
+    Relay,
+    Routes,
+}
 
 // The kinds as numbers (document 01, The kinds): its rows in their order, and 0 for a code that has none.
 pub const NO_ROW: u8 = 0;
@@ -39,9 +61,6 @@ pub const RELAY: u8 = 12;
 // Classless routes (document 02, request 14).
 pub const ROUTES: u8 = 13;
 
-// The number given for a sub-option or a route that runs past the data.
-const PAST: u8 = 8;
-
 // The numbers of the rows (crates/ranges/specs/Rows.antt) have that of their kind in the low four bits. The first row of a kind has the number of the kind;
 // these are the others, by their codes.
 const ROW_68: u8 = ADDRESSES + 16;
@@ -67,47 +86,56 @@ pub fn kind_of(row: u8) -> u8
     row % 16
 }
 
-// The kind of the code c, as a number (document 01, The kinds, by code).
-pub fn kind(c: u8) -> u8
-    ensures { result ≡ kind_number (kind_of c) }
+// The same by its name; none for no row.
+pub fn kind_in(row: u8) -> Option<OptionKind>
+    ensures { kind_given result ≡ kind_from (kind_numbered row) }
 {
-    kind_of(ranges::row(c))
+    match row % 16 {
+        ADDRESS => Some(OptionKind::Address),
+        ADDRESSES => Some(OptionKind::Addresses),
+        PAIRS => Some(OptionKind::Pairs),
+        FLAG => Some(OptionKind::Flag),
+        OCTET => Some(OptionKind::Octet),
+        NUMBER16 => Some(OptionKind::Number16),
+        NUMBERS16 => Some(OptionKind::Numbers16),
+        UNSIGNED32 => Some(OptionKind::Unsigned32),
+        SIGNED32 => Some(OptionKind::Signed32),
+        TEXT => Some(OptionKind::Text),
+        OPAQUE => Some(OptionKind::Opaque),
+        RELAY => Some(OptionKind::Relay),
+        ROUTES => Some(OptionKind::Routes),
+        _ => None,
+    }
+}
+
+// The kind of the code c (document 01, The kinds, by code); none for a code that has none.
+pub fn kind(c: u8) -> Option<OptionKind>
+    ensures { kind_given result ≡ kind_of c }
+{
+    kind_in(ranges::row(c))
 }
 
 // The length of a text without its trailing zeros (document 01, The kinds).
 pub fn text_len(t: &[u8]) -> usize
     ensures { result ≡ trimmed t.now }
 {
-    let mut k = t.len();
-    while 0 < k {
-        let i = k - 1;
-        if t[i] != 0 {
-            return k;
-        }
-        k = i;
+    match t.iter().rposition(|x| *x != 0) {
+        Some(last) => last + 1,
+        None => 0,
     }
-    0
 }
 
 // Whether each byte of a text, its trailing zeros dropped, is 1 to 127 (document 02, request 03).
 pub fn text_fits(t: &[u8]) -> bool
     ensures { result ≡ text_fits_value t.now }
 {
-    let n = text_len(t);
-    let mut i: usize = 0;
-    while i < n {
-        if !from_to(t[i], 1, 127) {
-            return false;
-        }
-        i = i + 1;
-    }
-    true
+    t[..text_len(t)].iter().all(|x| from_to(*x, 1, 127))
 }
 
 // How the data d breaks the row of the code c (document 01, The kinds, and Numbers given on refusal): 8 by its length, 9 by its value, and 0 where it
 // doesn't or there is no row.
-pub fn fault(c: u8, d: &[u8]) -> u8
-    ensures { result ≡ fault_of c d.now }
+pub fn fault(c: u8, d: &[u8]) -> Option<Fault>
+    ensures { fault_or_none result ≡ fault_of c d.now }
 {
     if ranges::LAST < c {
         return above_fault(c, d);
@@ -116,9 +144,9 @@ pub fn fault(c: u8, d: &[u8]) -> u8
 }
 
 // The same, by the number of the row of a code in the ranges: none is of a kind from 12 on, whose loops would take registers from the caller's walk.
-fn low_fault(row: u8, d: &[u8]) -> u8
+fn low_fault(row: u8, d: &[u8]) -> Option<Fault>
     requires { row % 16 < 12 }
-    ensures { result ≡ fault_numbered row d.now }
+    ensures { fault_or_none result ≡ fault_numbered row d.now }
 {
     if length_fits(row, d.len()) {
         if is_list(row) {
@@ -126,57 +154,57 @@ fn low_fault(row: u8, d: &[u8]) -> u8
         }
         return number_fault(row, d);
     }
-    8
+    Some(Fault::Length)
 }
 
 // The same, of a code above those of the ranges.
-fn above_fault(c: u8, d: &[u8]) -> u8
+fn above_fault(c: u8, d: &[u8]) -> Option<Fault>
     requires { 77 ≤ c }
-    ensures { result ≡ fault_of c d.now }
+    ensures { fault_or_none result ≡ fault_of c d.now }
 {
-    if c == ranges::RELAY {
-        return relay_fault(d);
+    match c {
+        ranges::RELAY => relay_fault(d),
+        ranges::ROUTES => routes_fault(d),
+        _ => None,
     }
-    if c == ranges::ROUTES {
-        return routes_fault(d);
-    }
-    0
 }
 
 // The same, of relay information.
-pub fn relay_fault(d: &[u8]) -> u8
-    ensures { result ≡ fault_of 82 d.now }
+pub fn relay_fault(d: &[u8]) -> Option<Fault>
+    ensures { fault_or_none result ≡ fault_of 82 d.now }
 {
     if !stepped(d.len(), 2, 1) {
-        return PAST;
+        return Some(Fault::Length);
     }
     suboptions_fault(d)
 }
 
 // The same, of classless routes.
-pub fn routes_fault(d: &[u8]) -> u8
-    ensures { result ≡ fault_of 121 d.now }
+pub fn routes_fault(d: &[u8]) -> Option<Fault>
+    ensures { fault_or_none result ≡ fault_of 121 d.now }
 {
     if !stepped(d.len(), 5, 1) {
-        return PAST;
+        return Some(Fault::Length);
     }
     route_data::first_fault(d)
 }
 
 // The same, by the row's number.
-pub fn fault_in(row: u8, d: &[u8]) -> u8
-    ensures { result ≡ fault_numbered row d.now }
+pub fn fault_in(row: u8, d: &[u8]) -> Option<Fault>
+    ensures { fault_or_none result ≡ fault_numbered row d.now }
 {
-    if !length_fits(row, d.len()) {
-        return 8;
+    if length_fits(row, d.len()) {
+        value_fault(row, d)
+    } else {
+        Some(Fault::Length)
     }
-    value_fault(row, d)
 }
 
 // The rule of length of a row; 68 may also have length 0, and 61 has at least 2.
 pub fn length_fits(row: u8, n: usize) -> bool
     ensures { result ≡ length_fits_value (row_at row) n }
 {
+    // By number, here and below, and not by `kind_in`: tried with `is_list`, an arm `_` or `Some(A | B)` told nothing of the kind, and the proof did not close.
     match row % 16 {
         ADDRESS => n == 4,
         ADDRESSES => {
@@ -210,15 +238,12 @@ fn stepped(n: usize, least: usize, unit: usize) -> bool
     requires { 0 < unit }
     ensures { result ≡ is_length (multiples least unit) n }
 {
-    if n < least {
-        return false;
-    }
-    n % unit == 0
+    least <= n && n % unit == 0
 }
 
 // The rule of value of a row; many rows have none.
-fn value_fault(row: u8, d: &[u8]) -> u8
-    ensures { result ≡ value_fault_in (row_at row) d.now }
+fn value_fault(row: u8, d: &[u8]) -> Option<Fault>
+    ensures { fault_or_none result ≡ value_fault_in (row_at row) d.now }
 {
     if is_list(row) {
         if RELAY <= row % 16 {
@@ -244,8 +269,8 @@ pub fn is_list(row: u8) -> bool
 }
 
 // The rule of value of those rows.
-pub fn list_fault(row: u8, d: &[u8]) -> u8
-    ensures { result ≡ list_fault_value (row_at row) d.now }
+pub fn list_fault(row: u8, d: &[u8]) -> Option<Fault>
+    ensures { fault_or_none result ≡ list_fault_value (row_at row) d.now }
 {
     if RELAY <= row % 16 {
         return long_list_fault(row, d);
@@ -254,42 +279,42 @@ pub fn list_fault(row: u8, d: &[u8]) -> u8
 }
 
 // Of relay information and of routes alone, the kinds from 12 on.
-pub fn long_list_fault(row: u8, d: &[u8]) -> u8
-    ensures { result ≡ long_list_fault_value row d.now }
+pub fn long_list_fault(row: u8, d: &[u8]) -> Option<Fault>
+    ensures { fault_or_none result ≡ long_list_fault_value row d.now }
 {
     match row % 16 {
         RELAY => suboptions_fault(d),
         ROUTES => route_data::first_fault(d),
-        _ => 0,
+        _ => None,
     }
 }
 
 // Of the others: with the loops of those two in it the compiler would not put this into its callers.
-pub fn short_list_fault(row: u8, d: &[u8]) -> u8
-    ensures { result ≡ short_list_fault_value row d.now }
+pub fn short_list_fault(row: u8, d: &[u8]) -> Option<Fault>
+    ensures { fault_or_none result ≡ short_list_fault_value row d.now }
 {
     match row % 16 {
         PAIRS => {
             if row == ROW_33 {
                 return or_nine(destinations_fit(d));
             }
-            0
+            None
         }
         NUMBERS16 => or_nine(never_falling(d)),
         TEXT => or_nine(text_fits(d)),
-        _ => 0,
+        _ => None,
     }
 }
 
 // That of the other rows.
-pub fn number_fault(row: u8, d: &[u8]) -> u8
-    ensures { result ≡ number_fault_value (row_at row) d.now }
+pub fn number_fault(row: u8, d: &[u8]) -> Option<Fault>
+    ensures { fault_or_none result ≡ number_fault_value (row_at row) d.now }
 {
     match row % 16 {
         FLAG => or_nine(from_to(num::byte(d, 0), 0, 1)),
         OCTET => or_nine(octet_fits(row, num::byte(d, 0))),
         NUMBER16 => or_nine(number16_fits(row, num::first16(d))),
-        _ => 0,
+        _ => None,
     }
 }
 
@@ -318,31 +343,22 @@ fn number16_fits(row: u8, v: u16) -> bool
     }
 }
 
-fn or_nine(right: bool) -> u8
-    ensures { result ≡ or_nine_value right }
+fn or_nine(right: bool) -> Option<Fault>
+    ensures { fault_or_none result ≡ or_nine_value right }
 {
-    if right { 0 } else { 9 }
+    if right { None } else { Some(Fault::Value) }
 }
 
 fn one_of_four(v: u8) -> bool
     ensures { result ≡ among v (1 ∷ 2 ∷ 4 ∷ 8 ∷ []) }
 {
-    match v {
-        1 => true,
-        2 => true,
-        4 => true,
-        8 => true,
-        _ => false,
-    }
+    matches!(v, 1 | 2 | 4 | 8)
 }
 
 fn from_to(v: u8, least: u8, most: u8) -> bool
     ensures { result ≡ from_to_value least most v }
 {
-    if v < least {
-        return false;
-    }
-    v <= most
+    least <= v && v <= most
 }
 
 // 25: whether the 16-bit numbers of d are each at least 68 and never fall. A number is held to the one before it, the first to 68.
@@ -350,14 +366,14 @@ fn never_falling(d: &[u8]) -> bool
     ensures { result ≡ rising 68 (numbers_of d.now) }
 {
     let mut least: u16 = 68;
-    let mut i: usize = 0;
-    while 2 <= d.len() - i {
-        let v = num::be16(d[i], d[i + 1]);
+    let mut rest = d;
+    while let [a, b, more @ ..] = rest {
+        let v = num::be16(*a, *b);
         if v < least {
             return false;
         }
         least = v;
-        i = i + 2;
+        rest = more;
     }
     true
 }
@@ -366,35 +382,35 @@ fn never_falling(d: &[u8]) -> bool
 fn destinations_fit(d: &[u8]) -> bool
     ensures { result ≡ no_zero_first (addresses_of d.now) }
 {
-    let mut i: usize = 0;
-    while 4 <= d.len() - i {
-        if num::be32(d[i], d[i + 1], d[i + 2], d[i + 3]) == 0 {
+    let mut rest = d;
+    while let [a, b, c, e, more @ ..] = rest {
+        if num::be32(*a, *b, *c, *e) == 0 {
             return false;
         }
-        if d.len() - i < 8 {
+        if more.len() < 4 {
             return true;
         }
-        i = i + 8;
+        rest = &more[4..];
     }
     true
 }
 
+// The fault of sub-options that run past the data.
+const PAST: Fault = Fault::Length;
+
 // 82: whether its sub-options, each a code, a length and so many bytes, fill the data exactly; 8 where one runs past.
-pub fn suboptions_fault(d: &[u8]) -> u8
-    ensures { result ≡ fill_fault (sub_options 0 0 d.now) }
+pub fn suboptions_fault(d: &[u8]) -> Option<Fault>
+    ensures { fault_or_none result ≡ fill_fault (sub_options 0 0 d.now) }
 {
-    let mut at: usize = 0;
-    while at < d.len() {
-        if d.len() - at < 2 {
-            return PAST;
+    let mut rest = d;
+    while let [_, size, more @ ..] = rest {
+        let size = num::wide(*size);
+        if more.len() < size {
+            return Some(PAST);
         }
-        let size = num::wide(d[at + 1]) + 2;
-        if d.len() - at < size {
-            return PAST;
-        }
-        at = at + size;
+        rest = &more[size..];
     }
-    0
+    if rest.is_empty() { None } else { Some(PAST) }
 }
 
 // The statements of specs/ hold.

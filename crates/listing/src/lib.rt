@@ -5,13 +5,16 @@ ghost use Rattle.std.specs.Prelude.{◌≡◌, ◌++◌, length, drop};
 ghost use Rattle.options.specs.Answers.{field_name, accepted_line, refused_line, lines_of, listing};
 ghost use Rattle.message.specs.Fields.{field_of};
 ghost use Rattle.message.specs.Active.{active_options};
+ghost use Rattle.refusal.specs.Refused.{number_of};
 ghost use Rattle.text.specs.Text.{Puts};
 ghost use Rattle.listing.specs.Line.{line_text};
 
-use cursor::{Position, Step};
+use cursor::Options;
 use message::Field;
+use refusal::Refusal;
 
-// Each of these puts a text into the buffer from `at` on, or from its first byte on, and gives the index after it.
+// Each of these puts a text into the buffer from `at` on, or from its first byte on, and gives the index after it. Each step takes the index that the one before gave:
+// a writer that holds both would only hand them on to the functions of `text`.
 
 // The name of a field (document 02, request 01).
 fn put_name(out: &mut [u8], at: usize, field: Field) -> usize
@@ -43,24 +46,16 @@ fn put_lines(m: &[u8], over: u32, out: &mut [u8], at: usize) -> usize
     ensures { Puts out.old at (lines_of (active_options over m.now)) result out.new }
 {
     let mut o = at;
-    let mut from = cursor::first();
-    loop {
-        let Step::Item {
-            field,
-            offset,
-            code,
-            len,
-        } = cursor::next_option(m, over, from)
-        else {
-            return o;
-        };
-        let start = message::base(field) + offset + 2;
-        o = put_line(out, o, code, start, len, field);
-        from = Position {
-            field,
-            offset: offset + 2 + len,
-        };
+    let options = Options {
+        m,
+        over,
+        at: cursor::first(),
+    };
+    for item in options {
+        let start = message::base(item.field) + item.offset + 2;
+        o = put_line(out, o, item.code, start, item.len, item.field);
     }
+    o
 }
 
 // The first line: how many options there are.
@@ -73,13 +68,13 @@ fn put_count(n: usize, out: &mut [u8]) -> usize
 }
 
 // The one line of a refusal.
-fn put_refusal(number: u32, place: usize, out: &mut [u8]) -> usize
-    ensures { Puts out.old 0 (refused_line number place) result out.new }
+fn put_refusal(refusal: Refusal, out: &mut [u8]) -> usize
+    ensures { Puts out.old 0 (refused_line (number_of refusal.rule) refusal.place) result out.new }
 {
     let a = text::put_word(out, 0, b"refused ");
-    let b = text::put_decimal(out, a, number as usize);
+    let b = text::put_decimal(out, a, refusal.rule.number() as usize);
     let c = text::put_byte(out, b, b' ');
-    let d = text::put_decimal(out, c, place);
+    let d = text::put_decimal(out, c, refusal.place);
     text::put_byte(out, d, b'\n')
 }
 
@@ -90,10 +85,11 @@ pub fn list(m: &[u8], out: &mut [u8; 16384]) -> usize
     ensures text { out.new ≡ listing m.now ++ drop (length (listing m.now)) out.old }
 {
     let mut seen = [0; 4];
-    let w = message::codes(m, &mut seen);
-    if w.number != 0 {
-        return put_refusal(w.number, w.place, out);
+    match message::codes(m, &mut seen) {
+        Ok(w) => {
+            let a = put_count(w.count, out);
+            put_lines(m, w.over, out, a)
+        }
+        Err(refusal) => put_refusal(refusal, out),
     }
-    let a = put_count(w.count, out);
-    put_lines(m, w.over, out, a)
 }

@@ -112,7 +112,7 @@ module _ (d h : List ℕ) (head_byte : (i : ℕ) → i < 4 → get_or h i 0 ≡ 
           rw (e, kind_of_row row r q, named r.kind, head_value r.values p.0, head_meaning r.kind p.1) (two_rules (is_length r.lengths (length d)) (value_fault_value r.values d) (meaning r.kind d))
 
 module _ (d : List ℕ) where
-  all_meaning : (k : Kind) → meaning_of k (length d) d ≡ meaning k d
+  pub all_meaning : (k : Kind) → meaning_of k (length d) d ≡ meaning k d
   unfolding meaning meaning_of
   all_meaning address = refl
   all_meaning addresses = refl

@@ -1,10 +1,11 @@
 // Look up a code, its data and its text, and copy its bytes (document 01, What is asked of a message; document 02, requests 01 and 02).
 #![tactic(auto)]
 
-ghost use Rattle.std.specs.Prelude.{◌≡◌, true, false, ◌++◌, ◌≤◌, ◌+◌, length, get_or};
-ghost use Rattle.message.specs.Scan.{scan_of};
+ghost use Rattle.std.specs.Prelude.{◌≡◌, true, false, cond, ◌++◌, ◌≤◌, ◌+◌, length, get_or};
+ghost use Rattle.message.specs.Scan.{told_of, scan_of};
+ghost use Rattle.message.specs.Fields.{field_of};
 ghost use Rattle.message.specs.Part.{part_at};
-ghost use Rattle.options.specs.Kinds.{kinds, judged_by};
+ghost use Rattle.options.specs.Kinds.{kinds, judged_by, unless};
 ghost use Rattle.options.specs.CodeSet.{marked};
 ghost use Rattle.options.specs.Answers as asked;
 ghost use Rattle.cursor.specs.Cursor.{first_position};
@@ -12,19 +13,21 @@ ghost use Rattle.buffer.specs.Written.{Written};
 ghost use Rattle.text.specs.Text.{Puts};
 ghost use Rattle.gather.specs.Joined.{joined_from};
 ghost use Rattle.filled.specs.Fill.{Fills};
-ghost use Rattle.lookup.specs.Shown.{content_of, wholeness_of, origin_of, answer_of, extent_of, ContentByCase, OriginByCase, AnswerByCase, ExtentByCase};
-ghost use Rattle.kinds.specs.Numbers.{kind_at, row_at, is_list_value, list_fault_value, number_fault_value};
-ghost use Rattle.lookup.specs.Found.{origin_at_value, value_of, known_row_value, content_by, meaning_of, judged_of, several_at, size_at, data_at, InPieces, clipped};
+ghost use Rattle.refusal.specs.Refused.{fault_or_none};
+ghost use Rattle.lookup.specs.Shown.{content_of, wholeness_of, origin_of, found_of, option_of, answer_of, extent_of, ContentByCase, OriginByCase, AnswerByCase, ExtentByCase};
+ghost use Rattle.kinds.specs.Numbers.{kind_at, kind_numbered, row_at, is_list_value, list_fault_value, number_fault_value};
+ghost use Rattle.lookup.specs.Found.{code_checked, field_at_value, origin_at_value, known_row_value, some_row, content_in, meaning_of, judged_of, several_at, size_at, data_at, InPieces, one_in, part_given};
 
-use filled::Given;
+use kinds::OptionKind;
 use message::{Field, Scanned};
+use refusal::{Fault, Refusal, Rule};
 
 // What is answered of an option, wherever it stands (document 01, What is asked of a message): unknown, with the length of its data; broken, with 8 or 9; or
 // its kind, with the number or the length.
 #[derive(Clone, Copy)]
 pub enum Content {
     Unknown(usize),
-    Broken(u32),
+    Broken(Fault),
     Address(u32),
     Addresses(usize),
     Pairs(usize),
@@ -56,12 +59,11 @@ pub struct Origin {
     pub wholeness: Wholeness,
 }
 
-// The answer to a lookup. Every answer but absent says where the option stands (document 02, request 01).
+// What is found of a code: where its option stands, and what is answered of it (document 02, request 01).
 #[derive(Clone, Copy)]
-pub enum Answer {
-    Absent,
-    Refused { number: u32, place: usize },
-    Found { origin: Origin, content: Content },
+pub struct Found {
+    pub origin: Origin,
+    pub content: Content,
 }
 
 // A part of the message; 0 and 0 when it is empty.
@@ -76,28 +78,40 @@ pub fn proved()
     ensures { ContentByCase × OriginByCase × AnswerByCase × ExtentByCase }
 {}
 
-// What data that keeps the rules of its kind means.
-fn value(k: u8, d: &[u8]) -> Content
-    ensures { content_of result ≡ value_of k d.now }
+// What n bytes of data that keep the rules of a row mean, of which d has as many as the row's kind needs.
+#[tactic(auto, using(crate::proofs::Rows::kind_told), unfolding(crate::specs::Found::meaning_of))]
+fn value(row: u8, n: usize, d: &[u8]) -> Content
+    ensures { content_of result ≡ asked.known (meaning_of (kind_at (kind_numbered row)) n d.now) }
 {
-    match k {
-        kinds::ADDRESS => Content::Address(num::first32(d)),
-        kinds::ADDRESSES => Content::Addresses(d.len()),
-        kinds::PAIRS => Content::Pairs(d.len()),
-        kinds::FLAG => Content::Flag(num::byte(d, 0)),
-        kinds::OCTET => Content::Octet(num::byte(d, 0)),
-        kinds::NUMBER16 => Content::Number16(num::first16(d)),
-        kinds::NUMBERS16 => Content::Numbers16(d.len()),
-        kinds::UNSIGNED32 => Content::Unsigned32(num::first32(d)),
-        kinds::SIGNED32 => Content::Signed32(num::signed(num::first32(d))),
-        kinds::TEXT => Content::Text(kinds::text_len(d)),
-        kinds::RELAY => Content::Relay(d.len()),
-        kinds::ROUTES => Content::Routes(d.len()),
-        _ => Content::Opaque(d.len()),
+    match kinds::kind_in(row) {
+        Some(OptionKind::Address) => Content::Address(num::first32(d)),
+        Some(OptionKind::Addresses) => Content::Addresses(n),
+        Some(OptionKind::Pairs) => Content::Pairs(n),
+        Some(OptionKind::Flag) => Content::Flag(num::byte(d, 0)),
+        Some(OptionKind::Octet) => Content::Octet(num::byte(d, 0)),
+        Some(OptionKind::Number16) => Content::Number16(num::first16(d)),
+        Some(OptionKind::Numbers16) => Content::Numbers16(n),
+        Some(OptionKind::Unsigned32) => Content::Unsigned32(num::first32(d)),
+        Some(OptionKind::Signed32) => Content::Signed32(num::signed(num::first32(d))),
+        Some(OptionKind::Text) => Content::Text(kinds::text_len(d)),
+        Some(OptionKind::Relay) => Content::Relay(n),
+        Some(OptionKind::Routes) => Content::Routes(n),
+        Some(OptionKind::Opaque) => Content::Opaque(n),
+        None => Content::Opaque(n),
     }
 }
 
-// The row of a code, as a number; 0 where it has none, or is not known.
+// The same of data that a fault may break.
+fn judged(row: u8, n: usize, fault: Option<Fault>, d: &[u8]) -> Content
+    ensures { content_of result ≡ asked.known (unless (fault_or_none fault) (meaning_of (kind_at (kind_numbered row)) n d.now)) }
+{
+    match fault {
+        Some(fault) => Content::Broken(fault),
+        None => value(row, n, d),
+    }
+}
+
+// The row of a code, as a number; 0, as crates ranges and kinds have it, where it has none or is not known.
 pub fn known_row(known: [u64; 4], code: u8) -> u8
     ensures { result ≡ known_row_value (marked known) code }
 {
@@ -107,98 +121,58 @@ pub fn known_row(known: [u64; 4], code: u8) -> u8
     0
 }
 
-// What is answered of a code with a row, with the data d.
-fn judge(row: u8, d: &[u8]) -> Content
-    ensures { content_of result ≡ content_by row d.now }
+// The same, where there is one.
+fn row_of(known: [u64; 4], code: u8) -> Option<u8>
+    ensures { result ≡ some_row (known_row_value (marked known) code) }
 {
-    if row == 0 {
-        return Content::Unknown(d.len());
-    }
-    let number = kinds::fault_in(row, d);
-    if number != 0 {
-        return Content::Broken(number as u32);
-    }
-    value(kinds::kind_of(row), d)
-}
-
-// What data of n bytes means, of which d has as many as the kind needs. Data in one piece goes by `value`, which is then called at one place and compiled
-// into it.
-fn joined_value(k: u8, n: usize, d: &[u8]) -> Content
-    ensures { content_of result ≡ asked.known (meaning_of (kind_at k) n d.now) }
-{
-    match k {
-        kinds::ADDRESS => Content::Address(num::first32(d)),
-        kinds::ADDRESSES => Content::Addresses(n),
-        kinds::PAIRS => Content::Pairs(n),
-        kinds::FLAG => Content::Flag(num::byte(d, 0)),
-        kinds::OCTET => Content::Octet(num::byte(d, 0)),
-        kinds::NUMBER16 => Content::Number16(num::first16(d)),
-        kinds::NUMBERS16 => Content::Numbers16(n),
-        kinds::UNSIGNED32 => Content::Unsigned32(num::first32(d)),
-        kinds::SIGNED32 => Content::Signed32(num::signed(num::first32(d))),
-        kinds::TEXT => Content::Text(kinds::text_len(d)),
-        kinds::RELAY => Content::Relay(n),
-        kinds::ROUTES => Content::Routes(n),
-        _ => Content::Opaque(n),
+    match known_row(known, code) {
+        0 => None,
+        row => Some(row),
     }
 }
 
-// What is answered of n bytes by a row, where d has the first four.
-fn judge_head(row: u8, n: usize, d: &[u8]) -> Content
-    ensures { content_of result ≡ asked.known (judged_of row n (number_fault_value (row_at row) d.now) d.now) }
+// What is answered of a code with the data d, by its row.
+fn judge(row: Option<u8>, d: &[u8]) -> Content
+    ensures { content_of result ≡ content_in row d.now }
+{
+    match row {
+        Some(row) => judged(row, d.len(), kinds::fault_in(row, d), d),
+        None => Content::Unknown(d.len()),
+    }
+}
+
+// What is answered of n bytes by a row, where d has those that are looked at, which a fault may break.
+fn judge_joined(row: u8, n: usize, fault: Option<Fault>, d: &[u8]) -> Content
+    ensures { content_of result ≡ asked.known (judged_of row n (fault_or_none fault) d.now) }
 {
     if !kinds::length_fits(row, n) {
-        return Content::Broken(8);
+        return Content::Broken(Fault::Length);
     }
-    let number = kinds::number_fault(row, d);
-    if number != 0 {
-        return Content::Broken(number as u32);
-    }
-    joined_value(kinds::kind_of(row), n, d)
+    judged(row, n, fault, d)
 }
 
-// The same, where d has all n bytes.
-fn judge_list(row: u8, n: usize, d: &[u8]) -> Content
-    ensures { content_of result ≡ asked.known (judged_of row n (list_fault_value (row_at row) d.now) d.now) }
-{
-    if !kinds::length_fits(row, n) {
-        return Content::Broken(8);
-    }
-    let number = kinds::list_fault(row, d);
-    if number != 0 {
-        return Content::Broken(number as u32);
-    }
-    joined_value(kinds::kind_of(row), n, d)
-}
-
-// The origin of an option whose code byte stands at a place of the message. The fields lie apart, so the place tells the field.
-fn origin_at(place: usize, wholeness: Wholeness) -> Origin
-    ensures { origin_of result ≡ origin_at_value place (wholeness_of wholeness) }
+// The field that a place of the message is in. The fields lie apart, so the place tells the field.
+fn field_at(place: usize) -> Field
+    ensures { field_of result ≡ field_at_value place }
 {
     if 240 <= place {
-        return Origin {
-            field: Field::Options,
-            offset: place - 240,
-            wholeness,
-        };
+        return Field::Options;
     }
     if 108 <= place {
-        return Origin {
-            field: Field::File,
-            offset: place - 108,
-            wholeness,
-        };
+        return Field::File;
     }
-    if place < 44 {
-        return Origin {
-            field: Field::Sname,
-            offset: 0,
-            wholeness,
-        };
-    }
+    Field::Sname
+}
+
+// The origin of an option whose code byte stands at a place of the message.
+fn origin_at(place: usize, wholeness: Wholeness) -> Origin
+    requires { 44 ≤ place }
+    ensures { origin_of result ≡ origin_at_value place (wholeness_of wholeness) }
+{
+    let field = field_at(place);
     Origin {
-        field: Field::Sname,
-        offset: place - 44,
+        field,
+        offset: place - message::base(field),
         wholeness,
     }
 }
@@ -234,7 +208,12 @@ fn judge_both(row: u8, a: &[u8], b: &[u8]) -> Content
         byte_of_both(a, b, 2),
         byte_of_both(a, b, 3),
     ];
-    judge_head(row, a.len() + b.len(), &head)
+    judge_joined(
+        row,
+        a.len() + b.len(),
+        kinds::number_fault(row, &head),
+        &head,
+    )
 }
 
 // Puts two parts end to end at the front of a buffer, and gives the index after them.
@@ -254,7 +233,7 @@ fn put_both(a: &[u8], b: &[u8], out: &mut [u8]) -> usize
 
 // All their bytes, at the front of a buffer that has room for them. Gives the index after them.
 fn put_pieces(m: &[u8], code: u8, w: Scanned, out: &mut [u8]) -> usize
-    requires { InPieces m.now code w × (w.whole ≤ length out.old) }
+    requires { InPieces m.now code (told_of w) × (w.whole ≤ length out.old) }
     ensures { Puts out.old 0 (joined_from w.over m.now first_position code) result out.new }
 {
     let first = piece(m, w.start - 2);
@@ -267,26 +246,28 @@ fn put_pieces(m: &[u8], code: u8, w: Scanned, out: &mut [u8]) -> usize
 
 // What is answered where the row looks at all bytes: they are put into a buffer of the function's own.
 fn by_list(m: &[u8], row: u8, code: u8, w: Scanned) -> Content
-    requires { (is_list_value (row_at row) ≡ true) × InPieces m.now code w }
+    requires { (is_list_value (row_at row) ≡ true) × InPieces m.now code (told_of w) }
     ensures { content_of result ≡ asked.known (judged_by (row_at row) (joined_from w.over m.now first_position code)) }
 {
     let mut joined = [0u8; 1472];
     let n = put_pieces(m, code, w, &mut joined);
-    judge_list(row, n, &joined[..n])
+    let d = &joined[..n];
+    judge_joined(row, n, kinds::list_fault(row, d), d)
 }
 
 // What is answered where the row looks at few: of three pieces or more the first four bytes are gathered.
 fn by_first_four(m: &[u8], row: u8, code: u8, w: Scanned) -> Content
-    requires { (is_list_value (row_at row) ≡ false) × InPieces m.now code w }
+    requires { (is_list_value (row_at row) ≡ false) × InPieces m.now code (told_of w) }
     ensures { content_of result ≡ asked.known (judged_by (row_at row) (joined_from w.over m.now first_position code)) }
 {
     let mut head = [0u8; 4];
     let h = gather::gather(m, w.over, cursor::first(), code, &mut head, 0);
-    judge_head(row, w.whole, &head[..h])
+    let d = &head[..h];
+    judge_joined(row, w.whole, kinds::number_fault(row, d), d)
 }
 
 fn by_head(m: &[u8], row: u8, code: u8, w: Scanned) -> Content
-    requires { (is_list_value (row_at row) ≡ false) × InPieces m.now code w }
+    requires { (is_list_value (row_at row) ≡ false) × InPieces m.now code (told_of w) }
     ensures { content_of result ≡ asked.known (judged_by (row_at row) (joined_from w.over m.now first_position code)) }
 {
     let first = piece(m, w.start - 2);
@@ -297,106 +278,126 @@ fn by_head(m: &[u8], row: u8, code: u8, w: Scanned) -> Content
     by_first_four(m, row, code, w)
 }
 
-fn judge_pieces(m: &[u8], row: u8, code: u8, w: Scanned) -> Content
-    requires { InPieces m.now code w }
-    ensures { content_of result ≡ content_by row (joined_from w.over m.now first_position code) }
+fn judge_pieces(m: &[u8], row: Option<u8>, code: u8, w: Scanned) -> Content
+    requires { InPieces m.now code (told_of w) }
+    ensures { content_of result ≡ content_in row (joined_from w.over m.now first_position code) }
 {
-    if row == 0 {
+    let Some(row) = row else {
         return Content::Unknown(w.whole);
-    }
+    };
     if kinds::is_list(row) {
         return by_list(m, row, code, w);
     }
     by_head(m, row, code, w)
 }
 
-// The answer for a code that comes in several pieces.
-fn in_pieces(m: &[u8], row: u8, code: u8, w: Scanned) -> Answer
-    requires { InPieces m.now code w }
-    ensures { answer_of result ≡ several_at row w.start (joined_from w.over m.now first_position code) }
+// What is found of a code that comes in several pieces.
+fn in_pieces(m: &[u8], row: Option<u8>, code: u8, w: Scanned) -> Found
+    requires { InPieces m.now code (told_of w) }
+    ensures { found_of result ≡ several_at row w.start (joined_from w.over m.now first_position code) }
 {
     let origin = origin_at(w.start - 2, Wholeness::InPieces(w.whole));
     let content = judge_pieces(m, row, code, w);
-    Answer::Found { origin, content }
+    Found { origin, content }
 }
 
-// The answer once the message was walked.
-fn answer_in(m: &[u8], known: [u64; 4], code: u8, w: Scanned) -> Answer
-    requires { (code ≡ 0 → ⊥) × (code ≡ 255 → ⊥) × (w ≡ scan_of code m.now) }
-    ensures { answer_of result ≡ asked.lookup kinds (marked known) m.now code }
+// What is found of a code, once the message was walked.
+fn found_in(m: &[u8], known: [u64; 4], code: u8, w: Scanned) -> Option<Found>
+    requires { (asked.no_code code ≡ false) × (told_of w ≡ scan_of code m.now) }
+    ensures { option_of result ≡ asked.lookup kinds (marked known) m.now code }
 {
-    if w.number != 0 {
-        return Answer::Refused {
-            number: w.number,
-            place: w.place,
-        };
-    }
     let start = w.start;
     if start == 0 {
-        return Answer::Absent;
+        return None;
     }
-    let row = known_row(known, code);
+    let row = row_of(known, code);
     if w.last + 2 != start {
-        return in_pieces(m, row, code, w);
+        return Some(in_pieces(m, row, code, w));
     }
     let end = start + w.whole;
     // Before the data are judged: the compiler then goes from a row straight to its answer.
     let origin = origin_at(start - 2, Wholeness::InOne);
     let content = judge(row, &m[start..end]);
-    Answer::Found { origin, content }
+    Some(Found { origin, content })
 }
 
-// Looks up a code, given the set of known codes. One walk over the message.
-pub fn lookup(m: &[u8], known: [u64; 4], code: u8) -> Answer
+// Pads and END are no codes.
+fn check_code(code: u8) -> Result<(), Refusal>
+    ensures { result ≡ code_checked code }
+{
+    if code == 0 || code == 255 {
+        return Err(Rule::BadCode.at(0));
+    }
+    Ok(())
+}
+
+// Looks up a code, given the set of known codes. None where it is absent. One walk over the message.
+pub fn lookup(m: &[u8], known: [u64; 4], code: u8) -> Result<Option<Found>, Refusal>
     ensures { answer_of result ≡ asked.lookup kinds (marked known) m.now code }
 {
-    if code == 0 {
-        return Answer::Refused {
-            number: 10,
-            place: 0,
-        };
-    }
-    if code == 255 {
-        return Answer::Refused {
-            number: 10,
-            place: 0,
-        };
-    }
-    answer_in(m, known, code, message::find(m, code))
+    check_code(code)?;
+    let w = message::find(m, code)?;
+    Ok(found_in(m, known, code, w))
 }
 
-// A part that begins at start: 0 and 0 when it is empty.
-fn clip(start: usize, len: usize) -> Extent
-    ensures { extent_of result ≡ clipped start len }
+// The data of a code that comes in one piece.
+fn one_piece(m: &[u8], code: u8) -> Option<Extent>
+    ensures { result ≡ one_in code m.now }
 {
-    if len == 0 {
-        return Extent { start: 0, len: 0 };
-    }
-    Extent { start, len }
-}
-
-// The data part of a code, once the message was walked.
-fn data_in(m: &[u8], code: u8, w: Scanned) -> Extent
-    requires { (code ≡ 0 → ⊥) × (code ≡ 255 → ⊥) × (w ≡ scan_of code m.now) }
-    ensures { extent_of result ≡ asked.data_of m.now code }
-{
+    let Ok(()) = check_code(code) else {
+        return None;
+    };
+    let Ok(w) = message::find(m, code) else {
+        return None;
+    };
     if w.last + 2 != w.start {
-        return Extent { start: 0, len: 0 };
+        return None;
     }
-    clip(w.start, w.whole)
+    Some(Extent {
+        start: w.start,
+        len: w.whole,
+    })
+}
+
+// The text of a code that comes in one piece, without its trailing zeros. No data at all, which breaks the kind, is a text of length 0 here: both have an empty part.
+fn text_piece(m: &[u8], known: [u64; 4], code: u8) -> Option<Extent>
+    ensures { part_given result ≡ asked.text_of (marked known) m.now code }
+{
+    let e = one_piece(m, code)?;
+    if !ranges::is_text(code) {
+        return None;
+    }
+    if !codeset::contains(known, code) {
+        return None;
+    }
+    let start = e.start;
+    let end = start + e.len;
+    let t = &m[start..end];
+    // The texts have one row, with the number of their kind.
+    if kinds::fault_in(kinds::TEXT, t).is_some() {
+        return None;
+    }
+    Some(Extent {
+        start,
+        len: kinds::text_len(t),
+    })
+}
+
+// A part where there is one: 0 and 0 when it is empty.
+fn clip(part: Option<Extent>) -> Extent
+    ensures { extent_of result ≡ part_given part }
+{
+    match part {
+        Some(e) if e.len != 0 => e,
+        _ => Extent { start: 0, len: 0 },
+    }
 }
 
 // Where all data bytes of a code stand, whether it is known or not, broken or not; empty where they stand in several pieces.
 pub fn data_extent(m: &[u8], code: u8) -> Extent
     ensures { extent_of result ≡ asked.data_of m.now code }
 {
-    if code == 0 {
-        return Extent { start: 0, len: 0 };
-    }
-    if code == 255 {
-        return Extent { start: 0, len: 0 };
-    }
-    data_in(m, code, message::find(m, code))
+    clip(one_piece(m, code))
 }
 
 // The data bytes of a code, as a part of the message, at their own place; empty when the code is absent, when it comes in several
@@ -408,44 +409,11 @@ pub fn data(m: &[u8], code: u8) -> &[u8]
     message::part(m, e.start, e.len)
 }
 
-// The text part of a code, once the message was walked. No data at all, which breaks the kind, is a text of length 0 here: both have an empty part.
-fn text_in(m: &[u8], set: [u64; 4], code: u8, w: Scanned) -> Extent
-    requires { (code ≡ 0 → ⊥) × (code ≡ 255 → ⊥) × (w ≡ scan_of code m.now) }
-    ensures { extent_of result ≡ asked.text_of (marked set) m.now code }
-{
-    let start = w.start;
-    if start == 0 {
-        return Extent { start: 0, len: 0 };
-    }
-    if w.last + 2 != start {
-        return Extent { start: 0, len: 0 };
-    }
-    if !ranges::is_text(code) {
-        return Extent { start: 0, len: 0 };
-    }
-    if !codeset::contains(set, code) {
-        return Extent { start: 0, len: 0 };
-    }
-    let end = start + w.whole;
-    let t = &m[start..end];
-    // The texts have one row, with the number of their kind.
-    if kinds::fault_in(kinds::TEXT, t) != 0 {
-        return Extent { start: 0, len: 0 };
-    }
-    clip(start, kinds::text_len(t))
-}
-
 // Where the text of a code stands, without its trailing zeros; empty where it stands in several pieces.
 pub fn text_extent(m: &[u8], known: [u64; 4], code: u8) -> Extent
     ensures { extent_of result ≡ asked.text_of (marked known) m.now code }
 {
-    if code == 0 {
-        return Extent { start: 0, len: 0 };
-    }
-    if code == 255 {
-        return Extent { start: 0, len: 0 };
-    }
-    text_in(m, known, code, message::find(m, code))
+    clip(text_piece(m, known, code))
 }
 
 // The text of a code, as a part of the message, at its own place; empty unless the lookup answers text.
@@ -457,50 +425,28 @@ pub fn text(m: &[u8], known: [u64; 4], code: u8) -> &[u8]
 }
 
 // The copy of a code, once the message was walked.
-fn copy_in(m: &[u8], code: u8, w: Scanned, out: &mut [u8]) -> Given
-    requires { (code ≡ 0 → ⊥) × (code ≡ 255 → ⊥) × (w ≡ scan_of code m.now) }
+fn copy_in(m: &[u8], code: u8, w: Scanned, out: &mut [u8]) -> Result<usize, Refusal>
+    requires { (asked.no_code code ≡ false) × (told_of w ≡ scan_of code m.now) }
     ensures { Fills (asked.copy m.now code out.old) result out.new }
 {
-    if w.number != 0 {
-        return Given::Refused {
-            number: w.number,
-            place: w.place,
-        };
-    }
     if w.start == 0 {
-        return Given::Refused {
-            number: 11,
-            place: 0,
-        };
+        return Err(Rule::NoRoom.at(0));
     }
     let room = out.len();
     if room < w.whole {
-        return Given::Refused {
-            number: 11,
-            place: room,
-        };
+        return Err(Rule::NoRoom.at(room));
     }
     if w.last + 2 == w.start {
-        return Given::Bytes(text::put_word(out, 0, message::part(m, w.start, w.whole)));
+        return Ok(text::put_word(out, 0, message::part(m, w.start, w.whole)));
     }
-    Given::Bytes(put_pieces(m, code, w, out))
+    Ok(put_pieces(m, code, w, out))
 }
 
 // Copies the bytes of a code, those of all its pieces end to end, to the front of a lent buffer, and gives their number (document 02, request 02).
-pub fn copy(m: &[u8], code: u8, out: &mut [u8]) -> Given
+pub fn copy(m: &[u8], code: u8, out: &mut [u8]) -> Result<usize, Refusal>
     ensures { Fills (asked.copy m.now code out.old) result out.new }
 {
-    if code == 0 {
-        return Given::Refused {
-            number: 10,
-            place: 0,
-        };
-    }
-    if code == 255 {
-        return Given::Refused {
-            number: 10,
-            place: 0,
-        };
-    }
-    copy_in(m, code, message::find(m, code), out)
+    check_code(code)?;
+    let w = message::find(m, code)?;
+    copy_in(m, code, w, out)
 }

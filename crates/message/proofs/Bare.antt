@@ -1,8 +1,8 @@
 -- The walk over bytes that are no message's gives their items. Assumes nothing.
-use mathlib.Core.Path.{◌≡◌, refl, sym, ap, ◌∙◌, subst}
+use mathlib.Core.Path.{◌≡◌, refl, ap, ◌∙◌}
 use mathlib.Core.Bool.{Bool, true, false, cond, not}
-use mathlib.Core.List.{List, [], ◌∷◌, ◌++◌}
-use Prim.Native.Nat.{ℕ, ◌+◌, ◌*◌, ◌/◌, ◌%◌, ◌≤◌, ◌<◌}
+use mathlib.Core.List.{List, [], ◌∷◌}
+use Prim.Native.Nat.{ℕ, ◌+◌, ◌≤◌, ◌<◌}
 use native.Mathlib.Omega.{arith}
 use lib.Dec.{eqb}
 use lib.ListN.{length, length-append}
@@ -14,15 +14,15 @@ use Rattle.options.specs.Answers.{record_bytes}
 use Rattle.options.specs.Vendor.{Item, Items, listed, past, also, items_in, item_records}
 use Rattle.codeset.proofs.Words.{mark_other}
 use Rattle.codeset.proofs.Codes.{marks_none}
-use Rattle.theorems.proofs.View.{Reads, r_none, r_pad, r_end, r_beyond, r_option, reads}
+use Rattle.theorems.proofs.View.{clash, Reads, r_none, r_pad, r_end, r_beyond, r_option, reads}
 use Rattle.theorems.proofs.Fields.{below, option_in_lem}
-use Rattle.message.specs.declared.Scanned.{Scanned}
-use Rattle.message.specs.declared.Walked.{Walked}
-use Rattle.message.specs.declared.Measured.{Measured}
+use Rattle.refusal.specs.declared.Refusal.{Refusal}
+use Rattle.refusal.specs.Refused.{number_of}
+use Rattle.message.proofs.Rules.{has_number}
 use Rattle.message.specs.Active.{active_in}
 use Rattle.message.specs.Items.{measure_of}
-use Rattle.message.specs.Scan.{refused_at}
-use Rattle.message.specs.Walk.{Run, Walk, nothing, begun, passed, walk_of, walked_of}
+use Rattle.message.specs.Scan.{Scan, refused_at}
+use Rattle.message.specs.Walk.{Ending, Run, Walk, begun, passed, walk_of, walked_of}
 use Rattle.message.specs.Walking.{unfit_of, scanned_of, walk_field, step, all_walked, Gives, Laid, in_message, in_none, used_by_items, told_items, low_watched, Bare, Tells}
 use Rattle.message.proofs.Twin.{Codes, parse_codes}
 use Rattle.message.proofs.Walks.{walk_no_over}
@@ -42,7 +42,7 @@ not_watched c l z e = mark_other (with_mark no_codes 0) 255 c (omega arith) e �
 -- ---- the walk on top of s, of bytes that hold these items
 
 abbrev Over : Run → Items → Walk → Type 0
-Over s (past i) k = (k.end ≡ 2) × (k.place ≡ i)
+Over s (past i) k = (k.end ≡ 4) × (k.place ≡ i)
 Over s (listed xs) k =
     (k.end ≡ 0) × (k.run.kept ≡ s.kept) × (k.run.used ≡ s.used + used_by_items xs) × (k.run.count ≡ s.count + length xs)
 
@@ -84,7 +84,7 @@ told_over set (listed xs) k e =
     let n : k.run.count ≡ length xs = omega (arith, e.3) in
     rw (e.0, e.1, u, n) refl
 
-pub items_told : (want : ℕ) (m : List ℕ) → AllBytes m → (set : List ℕ) (s : Walked) (set' : List ℕ) → Gives marks_alone true want 0 m set s set' → scanned_of true s ≡ told_items (items_in (parse 0 0 m))
+pub items_told : (want : ℕ) (m : List ℕ) → AllBytes m → (set : List ℕ) (s : Ending) (set' : List ℕ) → Gives marks_alone true want 0 m set s set' → scanned_of true s ≡ told_items (items_in (parse 0 0 m))
 items_told want m b set s set' g =
     ap (scanned_of true) (g.is ∙ ap walked_of (all_one want m set))
     ∙ told_over set (items_in (parse 0 0 m)) (walk_of marks_alone true true want 0 (begun set) (parse 0 0 m)) (walk_over want (parse 0 0 m) (parse_codes 0 0 m b) (begun set))
@@ -119,16 +119,26 @@ size_is (x ∷ xs) = omega (arith, size_is xs, length-append x.item.body (record
 
 -- ---- FOR `scan`: a message, or bytes that are none's
 
+pub judged_fit : (bare : Bool) (n : ℕ) → n ≡ 0 → cond bare 0 n ≡ 0
+judged_fit true n e = refl
+judged_fit false n e = e
+
+pub not_judged : (bare : Bool) (n : ℕ) → bare ≡ true → cond bare 0 n ≡ 0
+not_judged bare n e = rw e refl
+
 abbrev pub watched_by : ℕ → List ℕ
 watched_by low = low ∷ 0 ∷ 0 ∷ 9223372036854775808 ∷ []
 
 module _ (marks : Bool) (want : ℕ) (m set : List ℕ) where
-  pub tells_unfit : (bare : Bool) (n p : ℕ) → n ≡ cond bare 0 (unfit_of m) → (n ≡ 0 → ⊥) → p ≡ cond (eqb n 3) 236 (length m) → (r : Scanned) → r ≡ refused_at n p → Tells bare marks want m set r set
-  tells_unfit true n p e h q r o = absurd (h e)
-  tells_unfit false n p e h q r o = scans_refused marks want m set n p (rw (q, e) (read_unfit m (λ z. h (e ∙ z)))) r o
+  -- a message whose length or cookie is refused
+  pub tells_unfit : (bare : Bool) → bare ≡ false → (r : Refusal) → number_of r.rule ≡ unfit_of m → r.place ≡ cond (eqb (unfit_of m) 3) 236 (length m) → Tells bare marks want m set (refused_at (number_of r.rule) r.place) set
+  tells_unfit true o r e q = clash (cc)
+  tells_unfit false o r e q =
+      let z : unfit_of m ≡ 0 → ⊥ = λ u. has_number r.rule (e ∙ u) in
+      scans_refused marks want m set (number_of r.rule) r.place (rw (q, e) (read_unfit m z)) (refused_at (number_of r.rule) r.place) refl
 
   pub tells_short : (bare : Bool) → Bare bare marks want m → cond bare 0 (unfit_of m) ≡ 0 → (first : ℕ) → first ≡ cond bare 0 240 → length m ≡ first
-      → (r : Scanned) → r ≡ refused_at 5 first → Tells bare marks want m set r set
+      → (r : Scan) → r ≡ refused_at 5 first → Tells bare marks want m set r set
   tells_short true y u first e l r o = absurd (omega (arith, (y refl).0))
   tells_short false y u first e l r o = scans_refused marks want m set 5 240 (read_bare m u (l ∙ e)) r (o ∙ ap (refused_at 5) e)
 
@@ -141,7 +151,7 @@ module _ (marks : Bool) (want : ℕ) (m set : List ℕ) where
       rw a (omega (arith, f.0), still want b 0 refl, still want b 255 refl, in_message e f.1)
 
   pub tells_walked : (bare : Bool) → Bare bare marks want m → AllBytes m → cond bare 0 (unfit_of m) ≡ 0 → (low first : ℕ) → low ≡ low_watched bare → first ≡ cond bare 0 240 → want < 256
-      → (s : Walked) (set' : List ℕ) → Gives (with_mark (watched_by low) want) marks want first m set s set' → (r : Scanned) → r ≡ scanned_of marks s → Tells bare marks want m set r set'
+      → (s : Ending) (set' : List ℕ) → Gives (with_mark (watched_by low) want) marks want first m set s set' → (r : Scan) → r ≡ scanned_of marks s → Tells bare marks want m set r set'
   tells_walked true y b u low first a e l s set' g r q =
       let z = y refl in
       let h : Gives marks_alone true 0 0 m set s set' = rw (a, e, z.1, z.2) at g in
@@ -151,14 +161,14 @@ module _ (marks : Bool) (want : ℕ) (m set : List ℕ) where
 
 -- ---- FOR `items`
 
-pub told_small : (f : List ℕ) (s : Scanned) → s ≡ told_items (items_in (parse 0 0 f)) → (s.used ≤ length f) × (s.count ≤ length f)
+pub told_small : (f : List ℕ) (s : Scan) → s ≡ told_items (items_in (parse 0 0 f)) → (s.used ≤ length f) × (s.count ≤ length f)
 told_small f s e = go (items_in (parse 0 0 f)) (items_fit f (reads f) (omega arith)) e
   where
     go : (w : Items) → Fits f 0 w → s ≡ told_items w → (s.used ≤ length f) × (s.count ≤ length f)
-    go (past i) h q = (omega (arith, ap (λ (x : Scanned). x.used) q), omega (arith, ap (λ (x : Scanned). x.count) q))
-    go (listed xs) h q = (omega (arith, h.0, ap (λ (x : Scanned). x.used) q), omega (arith, h.0, h.1, ap (λ (x : Scanned). x.count) q))
+    go (past i) h q = (omega (arith, ap (λ (x : Scan). x.used) q), omega (arith, ap (λ (x : Scan). x.count) q))
+    go (listed xs) h q = (omega (arith, h.0, ap (λ (x : Scan). x.used) q), omega (arith, h.0, h.1, ap (λ (x : Scan). x.count) q))
 
-pub measured : (w : Items) (s : Scanned) → s ≡ told_items w → record { past = not (eqb s.number 0); place = s.place; size = s.used + s.count } ≡ measure_of w
+pub measured : (w : Items) (s : Scan) → s ≡ told_items w → record { past = not (eqb s.number 0); place = s.place; size = s.used + s.count } ≡ measure_of w
 measured (past i) s e = rw e refl
 measured (listed xs) s e = rw (e, size_is xs) refl
 

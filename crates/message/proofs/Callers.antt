@@ -7,14 +7,20 @@ use native.Mathlib.Omega.{arith}
 use lib.Dec.{eqb, ltb}
 use lib.ListN.{length, get_or, take, drop}
 use Rattle.options.specs.Message.{Field, options, file, sname, start, bytes, cookie, Opt}
-use Rattle.options.specs.Refusals.{When, First, Row, row_1, row_2, row_3, row_4, row_5, row_6, row_7}
+use Rattle.options.specs.Refusals.{When, Row, row_1, row_2, row_3, row_4, row_5, row_6, row_7}
 use Rattle.options.specs.Reading.{either, Parse, ended, ran_out_value, beyond, found, parse, wrong52, second52, judge, more, Reading, accepted, refused, items, and_then, extend, overload, overload_of, file_in, sname_in, all_fields, same, read_message}
 use Rattle.options.specs.KindClaims.{AllBytes}
 use Rattle.theorems.proofs.View.{clash}
 use Rattle.theorems.proofs.Reading.{refused_by_the_table}
 use borrow.Author.Tests.{ltb-false}
+use Rattle.std.specs.Prelude.{Ok, Err}
+use Rattle.refusal.specs.declared.Refusal.{Refusal}
+use Rattle.refusal.specs.Refused.{number_of}
 use Rattle.message.specs.declared.Scanned.{Scanned}
-use Rattle.message.specs.Scan.{refused_at, scan_in, scan_of, survey_of}
+use Rattle.message.specs.Scan.{Scan, refused_at, scan_in, scan_of, survey_of, Surveys, told_of, told_by}
+use Rattle.message.specs.Judging.{unfit_of}
+use Rattle.message.proofs.Readings.{fit_length, read_fit, read_unfit}
+use Rattle.message.proofs.Rules.{has_number}
 use Rattle.message.specs.Active.{options_in, field_from, options_from, active_options}
 
 -- the bytes of a slice
@@ -49,7 +55,7 @@ pub record Passed (m : List ℕ) (os : List Opt) : Type 0 where
   pub most : length m ≤ 1472
   pub fields : all_fields m ≡ accepted os
 
-pub record ToldAccepted (marks : Bool) (want : ℕ) (m : List ℕ) (r : Scanned) (os : List Opt) : Type 0 where
+pub record ToldAccepted (marks : Bool) (want : ℕ) (m : List ℕ) (r : Scan) (os : List Opt) : Type 0 where
   pub reads : read_message m ≡ accepted os
   pub is : r ≡ scan_in marks want (accepted os)
   pub options_are : os ≡ active_options r.over m
@@ -170,51 +176,75 @@ refused_number : (m : List ℕ) (n p : ℕ) → read_message m ≡ refused n p �
 refused_number m n p e z = let f = (refused_by_the_table m n p).0 e in row_number m n p f.when f.applies z
 
 -- what is told of a message, by the number
-told_refused : (marks : Bool) (want : ℕ) (m : List ℕ) (r : Scanned) → r ≡ scan_in marks want (read_message m) → (r.number ≡ 0 → ⊥) → read_message m ≡ refused r.number r.place
+told_refused : (marks : Bool) (want : ℕ) (m : List ℕ) (r : Scan) → r ≡ scan_in marks want (read_message m) → (r.number ≡ 0 → ⊥) → read_message m ≡ refused r.number r.place
 told_refused marks want m r h y = go (read_message m) refl
   where
     go : (w : Reading) → read_message m ≡ w → read_message m ≡ refused r.number r.place
     go (refused k q) z =
         let f : r ≡ refused_at k q = h ∙ ap (scan_in marks want) z in
-        z ∙ ap₂ refused (sym (ap (λ (x : Scanned). x.number) f)) (sym (ap (λ (x : Scanned). x.place) f))
-    go (accepted os) z = absurd (y (ap (λ (x : Scanned). x.number) (h ∙ ap (scan_in marks want) z)))
+        z ∙ ap₂ refused (sym (ap (λ (x : Scan). x.number) f)) (sym (ap (λ (x : Scan). x.place) f))
+    go (accepted os) z = absurd (y (ap (λ (x : Scan). x.number) (h ∙ ap (scan_in marks want) z)))
 
-told_accepted : (marks : Bool) (want : ℕ) (m : List ℕ) (r : Scanned) → AllBytes m → r ≡ scan_in marks want (read_message m) → r.number ≡ 0 → (os : List Opt) × ToldAccepted marks want m r os
+told_accepted : (marks : Bool) (want : ℕ) (m : List ℕ) (r : Scan) → AllBytes m → r ≡ scan_in marks want (read_message m) → r.number ≡ 0 → (os : List Opt) × ToldAccepted marks want m r os
 told_accepted marks want m r b h y = go (read_message m) refl
   where
     go : (w : Reading) → read_message m ≡ w → (os : List Opt) × ToldAccepted marks want m r os
-    go (refused n p) z = absurd (refused_number m n p z (sym (ap (λ (x : Scanned). x.number) (h ∙ ap (scan_in marks want) z)) ∙ y))
+    go (refused n p) z = absurd (refused_number m n p z (sym (ap (λ (x : Scan). x.number) (h ∙ ap (scan_in marks want) z)) ∙ y))
     go (accepted os) z =
         let i : r ≡ scan_in marks want (accepted os) = h ∙ ap (scan_in marks want) z in
-        let o : r.over ≡ overload (items os) = ap (λ (x : Scanned). x.over) i in
+        let o : r.over ≡ overload (items os) = ap (λ (x : Scan). x.over) i in
         (os, record { reads = z; is = i; options_are = options_all m os b z ∙ ap (λ (v : ℕ). active_options v m) (sym o) })
 
 -- ---- FOR CALLERS, of `find`
 
-abbrev pub ScanAccepted : ℕ → List ℕ → Scanned → List Opt → Type 0
+abbrev pub ScanAccepted : ℕ → List ℕ → Scan → List Opt → Type 0
 ScanAccepted want m r os = ToldAccepted false want m r os
 
 pub scan_reads : (want : ℕ) (m : List ℕ) (w : Reading) → read_message m ≡ w → scan_of want m ≡ scan_in false want w
 unfolding scan_of
 scan_reads want m w e = ap (scan_in false want) e
 
-pub scan_refused : (want : ℕ) (m : List ℕ) (r : Scanned) → r ≡ scan_of want m → (r.number ≡ 0 → ⊥) → read_message m ≡ refused r.number r.place
+pub scan_refused : (want : ℕ) (m : List ℕ) (r : Scan) → r ≡ scan_of want m → (r.number ≡ 0 → ⊥) → read_message m ≡ refused r.number r.place
 unfolding scan_of
 scan_refused want m r h y = told_refused false want m r h y
 
-pub scan_accepted : (want : ℕ) (m : List ℕ) (r : Scanned) → AllBytes m → r ≡ scan_of want m → r.number ≡ 0 → (os : List Opt) × ScanAccepted want m r os
+pub scan_accepted : (want : ℕ) (m : List ℕ) (r : Scan) → AllBytes m → r ≡ scan_of want m → r.number ≡ 0 → (os : List Opt) × ScanAccepted want m r os
 unfolding scan_of
 scan_accepted want m r b h y = told_accepted false want m r b h y
 
+-- the same by what `find` gives: a refusal is the reading's
+pub find_refused : (want : ℕ) (m : List ℕ) (r : Refusal) → told_by (Err r) ≡ scan_of want m → read_message m ≡ refused (number_of r.rule) r.place
+find_refused want m r h = scan_refused want m (told_by (Err r)) h (has_number r.rule)
+
+-- and what is told of an accepted message is as ScanAccepted says, of the code's fields
+pub find_accepted : (want : ℕ) (m : List ℕ) (w : Scanned) → AllBytes m → told_by (Ok w) ≡ scan_of want m → (os : List Opt) × ScanAccepted want m (told_of w) os
+find_accepted want m w b h = scan_accepted want m (told_of w) b h refl
+
 -- ---- and of `codes`
 
-abbrev pub SurveyAccepted : List ℕ → Scanned → List Opt → Type 0
+abbrev pub SurveyAccepted : List ℕ → Scan → List Opt → Type 0
 SurveyAccepted m r os = ToldAccepted true 52 m r os
 
-pub survey_refused : (m : List ℕ) (r : Scanned) → r ≡ survey_of m → (r.number ≡ 0 → ⊥) → read_message m ≡ refused r.number r.place
+pub survey_refused : (m : List ℕ) (r : Scan) → r ≡ survey_of m → (r.number ≡ 0 → ⊥) → read_message m ≡ refused r.number r.place
 unfolding survey_of
 survey_refused m r h y = told_refused true 52 m r h y
 
-pub survey_accepted : (m : List ℕ) (r : Scanned) → AllBytes m → r ≡ survey_of m → r.number ≡ 0 → (os : List Opt) × SurveyAccepted m r os
+pub survey_accepted : (m : List ℕ) (r : Scan) → AllBytes m → r ≡ survey_of m → r.number ≡ 0 → (os : List Opt) × SurveyAccepted m r os
 unfolding survey_of
 survey_accepted m r b h y = told_accepted true 52 m r b h y
+
+pub codes_refused_by : (m : List ℕ) (r : Refusal) (set : List ℕ) → Surveys m (told_by (Err r)) set → read_message m ≡ refused (number_of r.rule) r.place
+codes_refused_by m r set s = survey_refused m (told_by (Err r)) s.is (has_number r.rule)
+
+pub codes_accepted_by : (m : List ℕ) (w : Scanned) (set : List ℕ) → AllBytes m → Surveys m (told_by (Ok w)) set → (os : List Opt) × SurveyAccepted m (told_of w) os
+codes_accepted_by m w set b s = survey_accepted m (told_of w) b s.is refl
+
+-- ---- and of `fit`
+
+-- what `fit` refuses, the reading refuses
+pub unfit_refused : (m : List ℕ) (r : Refusal) → number_of r.rule ≡ unfit_of m → r.place ≡ cond (eqb (unfit_of m) 3) 236 (length m) → read_message m ≡ refused (number_of r.rule) r.place
+unfit_refused m r e q = rw (q, e) (read_unfit m (λ z. has_number r.rule (e ∙ z)))
+
+-- and what it lets through has its length and cookie
+pub fit_read : (m : List ℕ) → 0 ≡ unfit_of m → (240 ≤ length m) × (length m ≤ 1472) × (read_message m ≡ all_fields m)
+fit_read m e = let l = fit_length m (sym e) in (l.0, l.1, read_fit m (sym e))

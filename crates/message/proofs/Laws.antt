@@ -1,13 +1,15 @@
 -- Parts of a message. Assumes nothing.
-use mathlib.Core.Path.{◌≡◌, refl, sym, ap, ap₂, ◌∙◌}
+use mathlib.Core.Path.{◌≡◌, refl, sym, ◌∙◌}
 use mathlib.Core.Bool.{Bool, true, false, cond}
 use mathlib.Core.List.{List, [], ◌∷◌}
-use Prim.Native.Nat.{ℕ, ◌+◌, ◌-◌, ◌≤◌, ◌<◌}
+use Prim.Native.Nat.{ℕ, ◌-◌, ◌≤◌, ◌<◌}
 use native.Mathlib.Omega.{arith}
 use lib.ListN.{length, get_or, take, drop, length-drop}
 use lib.Seq.{drop-cons, take_all}
 use lib.Dec.{eqb}
 use borrow.Author.Tests.{eq-eqb, ne_eqb, eqb-true, eqb-false}
+use mir.Syntax.{w32}
+use Rattle.std.specs.Int.{from_le_bytes}
 use Rattle.options.specs.Message.{cookie}
 use Rattle.options.specs.Reading.{same}
 use Rattle.options.specs.Kinds.{word32}
@@ -34,6 +36,10 @@ four m h =
     let c : 238 < length m = omega arith in
     let d : 239 < length m = omega arith in
     rw (drop-cons m 236 0 a, drop-cons m 237 0 b, drop-cons m 238 0 c, drop-cons m 239 0 d)
+
+-- four bytes as one number, the low byte first
+pub low_first : (a b c d : ℕ) → from_le_bytes w32 (a ∷ b ∷ c ∷ d ∷ []) ≡ word32 d c b a
+low_first a b c d = omega arith
 
 -- the cookie as one number, the low byte first
 pub cookie_word : (a b c d : ℕ) → a < 256 → b < 256 → c < 256 → d < 256 → eqb (word32 d c b a) 1666417251 ≡ same (a ∷ b ∷ c ∷ d ∷ []) cookie

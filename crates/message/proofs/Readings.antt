@@ -1,24 +1,22 @@
 -- The walk over a message is its reading. Assumes nothing.
-use mathlib.Core.Path.{◌≡◌, refl, sym, ap, ap₂, ◌∙◌, subst}
+use mathlib.Core.Path.{◌≡◌, refl, sym, ap, ◌∙◌}
 use mathlib.Core.Bool.{Bool, true, false, cond, not}
 use mathlib.Core.List.{List, [], ◌∷◌, ◌++◌}
-use Prim.Native.Nat.{ℕ, ◌+◌, ◌≤◌, ◌<◌}
+use Prim.Native.Nat.{ℕ, ◌≤◌}
 use native.Mathlib.Omega.{arith}
 use lib.Dec.{eqb, ltb}
 use lib.ListN.{length, get_or, take, drop, drop_of_length-le}
 use borrow.Author.Tests.{eq-eqb, ne_eqb, ltb-false}
-use Rattle.options.specs.Message.{Field, options, file, sname, start, bytes, cookie, shortest, longest, Rec, Opt, data_start, end_to_end}
-use Rattle.options.specs.Reading.{Parse, parse, is_options_value, judge, Reading, accepted, refused, items, and_then, extend, overload, overload_of, file_in, sname_in, all_fields, same, read_message, pieces}
+use Rattle.options.specs.Message.{Field, options, file, sname, start, bytes, cookie, shortest, longest, Opt, end_to_end}
+use Rattle.options.specs.Reading.{parse, is_options_value, judge, Reading, accepted, refused, items, and_then, extend, overload, overload_of, file_in, sname_in, all_fields, same, read_message, pieces}
 use Rattle.options.specs.KindClaims.{AllBytes}
 use Rattle.theorems.proofs.View.{clash}
 use Rattle.theorems.proofs.CodesPresent.{all_field}
-use Rattle.message.specs.declared.Scanned.{Scanned}
 use Rattle.message.specs.Active.{active_in}
-use Rattle.message.specs.Scan.{first_start, place_after, used_by, refused_at, scan_in}
-use Rattle.message.specs.declared.Walked.{Walked}
-use Rattle.message.specs.Walk.{Run, Walk, nothing, begun, walk_of, walked_of}
-use Rattle.message.specs.Walking.{unfit_of, number_of, scanned_of, start_from, bytes_from, walk_field, step, all_walked, others_in, Gives, Scans}
-use Rattle.message.proofs.Twin.{over_from, No52, first_from, Adds, adds_then, Codes, parse_codes, Watching, OverIs, Judged, twin}
+use Rattle.message.specs.Scan.{Scan, first_start, place_after, used_by, refused_at, scan_in}
+use Rattle.message.specs.Walk.{Ending, Run, Walk, nothing, begun, walked_of}
+use Rattle.message.specs.Walking.{unfit_of, scanned_of, start_from, bytes_from, walk_field, step, all_walked, others_in, Gives, Scans}
+use Rattle.message.proofs.Twin.{No52, first_from, Adds, adds_then, parse_codes, Watching, OverIs, Judged, twin}
 
 -- without an option 52 in them, further options leave its value
 over_append : (os ps : List Opt) → No52 ps → overload (items (os ++ ps)) ≡ overload (items os)
@@ -185,10 +183,10 @@ read_bare m e h = let z : drop 240 m ≡ [] = drop_of_length-le m {i = 240} (ome
 
 module _ (marks : Bool) (want : ℕ) (m set : List ℕ) where
   -- where nothing is told but a refusal
-  pub scans_refused : (n p : ℕ) → read_message m ≡ refused n p → (r : Scanned) → r ≡ refused_at n p → Scans marks want m set r set
+  pub scans_refused : (n p : ℕ) → read_message m ≡ refused n p → (r : Scan) → r ≡ refused_at n p → Scans marks want m set r set
   scans_refused n p e r q = record { is = q ∙ ap (scan_in marks want) (sym e); codes = λ _ _ os f. clash (cc) }
 
-  pub scans_walked : (w : List ℕ) (y : Watching w want) (b : AllBytes m) → unfit_of m ≡ 0 → (s : Walked) (set' : List ℕ) → Gives w marks want 240 m set s set' → (r : Scanned) → r ≡ scanned_of marks s → Scans marks want m set r set'
+  pub scans_walked : (w : List ℕ) (y : Watching w want) (b : AllBytes m) → unfit_of m ≡ 0 → (s : Ending) (set' : List ℕ) → Gives w marks want 240 m set s set' → (r : Scan) → r ≡ scanned_of marks s → Scans marks want m set r set'
   scans_walked w y b e s set' g r q =
       let j = all_judged w marks want y m b set in
       record {

@@ -1,6 +1,6 @@
 -- The codes of a message, as a scan leaves them. Assumes nothing.
 use mathlib.Core.Path.{◌≡◌, refl, sym, ap, ◌∙◌}
-use mathlib.Core.Bool.{Bool, true, false, cond}
+use mathlib.Core.Bool.{true, cond}
 use mathlib.Core.List.{List, [], ◌∷◌}
 use mathlib.Core.Logic.{inl, inr}
 use Prim.Native.Nat.{ℕ, suc, ◌≤◌, ◌<◌}
@@ -12,12 +12,11 @@ use Rattle.options.specs.Message.{Opt, data_start, In}
 use Rattle.options.specs.Refusals.{When, Row, row_1, row_2, row_3, row_4, row_5, row_6, row_7}
 use Rattle.options.specs.Reading.{Reading, accepted, refused, items, read_message, pieces}
 use Rattle.options.specs.CodeSet.{with_mark, no_codes}
-use Rattle.options.specs.Answers.{words_of, present, present_in}
+use Rattle.options.specs.Answers.{words_of, present}
 use Rattle.options.specs.KindClaims.{AllBytes}
 use Rattle.theorems.proofs.Reading.{refused_by_the_table}
 use Rattle.theorems.proofs.CodesPresent.{listed_small, present_is}
-use Rattle.message.specs.declared.Scanned.{Scanned}
-use Rattle.message.specs.Scan.{first_start, scan_in, survey_of, Surveys}
+use Rattle.message.specs.Scan.{Scan, first_start, scan_in, survey_of, Surveys}
 use Rattle.message.specs.Walking.{others_in, Scans}
 use Rattle.message.proofs.Watch.{Small, words_are}
 
@@ -43,7 +42,7 @@ none_first : (ps : List Opt) → eqb (first_start ps) 0 ≡ eqb (length ps) 0
 none_first [] = refl
 none_first (o ∷ os) = ne_eqb (data_start o) 0 (λ z. omega (arith, z)) ∙ sym (ne_eqb (suc (length os)) 0 (λ z. omega (arith, z)))
 
-module _ (m : List ℕ) (b : AllBytes m) (r : Scanned) (set : List ℕ) (s : Scans true 52 m no_codes r set) where
+module _ (m : List ℕ) (b : AllBytes m) (r : Scan) (set : List ℕ) (s : Scans true 52 m no_codes r set) where
   is : r ≡ survey_of m
   unfolding survey_of
   is = s.is
@@ -53,16 +52,16 @@ module _ (m : List ℕ) (b : AllBytes m) (r : Scanned) (set : List ℕ) (s : Sca
     where
       go : (v : Reading) → read_message m ≡ v → no_codes ≡ (present m).words
       go (refused n p) e = rw (present_is m e) refl
-      go (accepted os) e = absurd (h (ap (λ (x : Scanned). x.number) (s.is ∙ ap (scan_in true 52) e)))
+      go (accepted os) e = absurd (h (ap (λ (x : Scan). x.number) (s.is ∙ ap (scan_in true 52) e)))
 
   -- the set, by whether 52 has a piece
   words : r.number ≡ 0 → cond (eqb r.start 0) set (with_mark set 52) ≡ (present m).words
   words h = go (read_message m) refl
     where
       go : (v : Reading) → read_message m ≡ v → cond (eqb r.start 0) set (with_mark set 52) ≡ (present m).words
-      go (refused n p) e = let z : r.number ≡ n = ap (λ (x : Scanned). x.number) (s.is ∙ ap (scan_in true 52) e) in absurd (omega (arith, numbered m n p e))
+      go (refused n p) e = let z : r.number ≡ n = ap (λ (x : Scan). x.number) (s.is ∙ ap (scan_in true 52) e) in absurd (omega (arith, numbered m n p e))
       go (accepted os) e =
-          let q : eqb r.start 0 ≡ eqb (length (pieces 52 os)) 0 = ap (λ (x : Scanned). eqb x.start 0) (s.is ∙ ap (scan_in true 52) e) ∙ none_first (pieces 52 os) in
+          let q : eqb r.start 0 ≡ eqb (length (pieces 52 os)) 0 = ap (λ (x : Scan). eqb x.start 0) (s.is ∙ ap (scan_in true 52) e) ∙ none_first (pieces 52 os) in
           let t : set ≡ others_in no_codes os = s.codes refl refl os e in
           let z : (present m).words ≡ words_of no_codes (items os) = rw (present_is m e) refl in
           rw (q, t) (sym (z ∙ words_are no_codes refl os (small_of os (listed_small m e b))))

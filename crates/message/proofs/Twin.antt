@@ -1,20 +1,20 @@
 -- The walk of a field over watched codes is `judge`. Assumes nothing.
-use mathlib.Core.Path.{◌≡◌, refl, sym, ap, ap₂, ◌∙◌, subst}
+use mathlib.Core.Path.{◌≡◌, refl, sym, ap, ◌∙◌}
 use mathlib.Core.Bool.{Bool, true, false, cond, not}
 use mathlib.Core.List.{List, [], ◌∷◌, ◌++◌, append_assoc, append-nil}
 use Prim.Native.Nat.{ℕ, zero, suc, ◌+◌, ◌<◌}
 use native.Mathlib.Omega.{arith}
 use lib.Dec.{eqb, leb}
 use lib.ListN.{length, get_or, length-append}
-use borrow.Author.Tests.{eq-eqb, ne_eqb, eqb-true, eqb-false}
+use borrow.Author.Tests.{ne_eqb, eqb-true, eqb-false}
 use Rattle.options.specs.Message.{Field, options, file, sname, start, Rec, Opt, place, data_start, end_to_end}
-use Rattle.options.specs.Reading.{Parse, ended, ran_out_value, beyond, found, span, cut, record_of, item_of, parse, is_options_value, right52, wrong52, second52, either, judge, more, Reading, accepted, refused, items, overload, pieces}
+use Rattle.options.specs.Reading.{Parse, ended, ran_out_value, beyond, found, span, cut, record_of, item_of, parse, is_options_value, right52, judge, more, Reading, accepted, refused, items, overload, pieces}
 use Rattle.options.specs.CodeSet.{marked, with_mark}
 use Rattle.options.specs.KindClaims.{AllBytes}
 use Rattle.message.specs.declared.Kept.{Kept}
 use Rattle.message.specs.Scan.{place_after, used_by}
-use Rattle.message.specs.Walk.{tallied, set_after, Run, Walk, over_stop_value, over_after_value, kept_after_value, met, passed, done, stop, walk_of, out_end}
-use Rattle.message.specs.Walking.{number_of, others_in}
+use Rattle.message.specs.Walk.{Run, Walk, met, passed, walk_of}
+use Rattle.message.specs.Walking.{others_in}
 use Rattle.message.proofs.Walks.{other_code}
 
 -- ---- codes are bytes, and neither 0 nor 255
@@ -191,7 +191,7 @@ OverIs sname s os r = (r.kept.over ≡ s.kept.over) × No52 os
 
 abbrev pub Judged : Bool → ℕ → Field → Run → Reading → Walk → Type 0
 Judged marks want fd s (accepted os) k = (k.end ≡ 0) × Adds marks want s os k.run × OverIs fd s os k.run
-Judged marks want fd s (refused n p) k = (k.end ≡ 0 → ⊥) × (number_of k.end ≡ n) × (k.place ≡ p)
+Judged marks want fd s (refused n p) k = (k.end ≡ 0 → ⊥) × (k.end ≡ n) × (k.place ≡ p)
 
 abbrev OverStep : Field → Run → Rec → Run → Type 0
 OverStep options s x r = (rs : List Rec) → over_from r.kept.over rs ≡ over_from s.kept.over (x ∷ rs)
@@ -299,7 +299,7 @@ module _ (w : List ℕ) (marks : Bool) (want : ℕ) (y : Watching w want) where
       go false b = no_52 s i x p seen fd (marked w x.tag) refl b l z e h ih
 
   -- a field of a message needs its END
-  needs_end : (fd : Field) → out_end (start fd) ≡ 1
+  needs_end : (fd : Field) → eqb (start fd) 0 ≡ false
   needs_end options = refl
   needs_end file = refl
   needs_end sname = refl

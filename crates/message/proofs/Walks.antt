@@ -1,23 +1,23 @@
 -- The walk of one field at an offset: one law for each way through it. Assumes nothing.
-use mathlib.Core.Path.{◌≡◌, refl, sym, ap, ap₂, ◌∙◌, subst}
+use mathlib.Core.Path.{◌≡◌, refl, sym, ap, ◌∙◌, subst}
 use mathlib.Core.Bool.{Bool, true, false, cond, not}
 use mathlib.Core.List.{List, [], ◌∷◌}
-use Prim.Native.Nat.{ℕ, zero, suc, ◌+◌, ◌-◌, ◌≤◌, ◌<◌}
+use Prim.Native.Nat.{ℕ, ◌+◌, ◌-◌, ◌≤◌, ◌<◌}
 use native.Mathlib.Omega.{arith}
 use native.Mathlib.Decide.{dec_lt, ℕ_discrete}
 use lib.Dec.{eqb, leb, ltb}
 use borrow.Author.Tests.{eq-eqb, ne_eqb, lt-ltb, le-ltb, le-leb, lt-leb, ltb-true, ltb-false}
 use lib.ListN.{length, get_or, take, drop}
 use Rattle.options.specs.Message.{Rec}
-use Rattle.options.specs.Reading.{Parse, ended, ran_out_value, beyond, found, right52, parse}
+use Rattle.options.specs.Reading.{Parse, ended, ran_out_value, beyond, found, right52}
 use Rattle.options.specs.CodeSet.{marked}
 use Rattle.theorems.proofs.View.{clash}
 use Rattle.wire.specs.Walk.{item_at}
 use Rattle.wire.proofs.Laws.{rest, rest_none, rest_pad, rest_end, rest_last, rest_long, rest_found, body_length}
+use Rattle.message.specs.Judging.{stop_number}
 use Rattle.message.specs.declared.Kept.{Kept}
-use Rattle.message.specs.declared.Walked.{Walked}
 use Rattle.message.specs.declared.Stop.{Stop}
-use Rattle.message.specs.Walk.{tallied, set_after, Run, Walk, over_stop_value, over_after_value, kept_after_value, size_of, met, passed, begun, done, stop, walk_of, ended_at, stopped_at, out_end, walked_of, run_of, onward, Lasts, Passing, Passes, past_stop, past_set, last_of, Few, Walks}
+use Rattle.message.specs.Walk.{Ending, tallied, set_after, Run, Walk, over_stop_value, over_after_value, kept_after_value, met, passed, done, stop, walk_of, ended_at, stopped_at, out, out_of, walked_of, run_of, onward, Lasts, Passing, Passes, past_stop, past_set, last_of, Few, Walks}
 
 -- ---- option 52
 
@@ -128,15 +128,22 @@ module _ {w : List ℕ} {marks : Bool} {f : List ℕ} {from : ℕ} {set : List �
       go true o = rw o (stops y (lasts_long h m (omega (arith, ltb-true (length f) e o, q))))
       go false o = rw o (stops (passing_on h m q (ltb-false (length f) e o) refl refl (omega (arith, tally_one marks))) (lasts_end f e l))
 
+out_no_over : (base : ℕ) (s : Run) (i : ℕ) → s.kept.over ≡ 0 → (out base s i).run.kept.over ≡ 0
+out_no_over base s i z = go (eqb base 0)
+  where
+    go : (b : Bool) → (cond b (done s 0 0) (stop s 5 (base + i))).run.kept.over ≡ 0
+    go true = z
+    go false = refl
+
 -- where 52 is not watched, none is met
 pub walk_no_over : (w : List ℕ) (marks main : Bool) (want base : ℕ) → marked w 52 ≡ false → (p : Parse) (s : Run) → s.kept.over ≡ 0
     → (walk_of w marks main want base s p).run.kept.over ≡ 0
 unfolding walk_of
 walk_no_over w marks main want base h ended s z = z
-walk_no_over w marks main want base h (ran_out_value i) s z = z
+walk_no_over w marks main want base h (ran_out_value i) s z = out_no_over base s i z
 walk_no_over w marks main want base h (beyond i) s z = refl
 walk_no_over w marks main want base h (found i x p) s z =
-    go (marked w x.tag) refl (eqb (over_stop_value main s.kept.over x.tag x.body) 0)
+    go (marked w x.tag) refl (eqb (stop_number (over_stop_value main s.kept.over x.tag x.body)) 0)
     (walk_no_over w marks main want base h p (met want base s i x)) (walk_no_over w marks main want base h p (passed marks s x) z)
   where
     on : Walk
@@ -149,7 +156,7 @@ walk_no_over w marks main want base h (found i x p) s z =
     over e = rw (ne_eqb x.tag 52 (λ q. other_code w 52 x.tag h e (sym q))) z
 
     go : (b : Bool) → marked w x.tag ≡ b → (c : Bool) → (over_after_value s.kept.over x.tag x.body ≡ 0 → on.run.kept.over ≡ 0) → past.run.kept.over ≡ 0
-        → (cond b (cond c on (stop s (over_stop_value main s.kept.over x.tag x.body) (base + i))) past).run.kept.over ≡ 0
+        → (cond b (cond c on (stop s (stop_number (over_stop_value main s.kept.over x.tag x.body)) (base + i))) past).run.kept.over ≡ 0
     go true e true f g = f (over e)
     go true e false f g = refl
     go false e c f g = g
@@ -157,24 +164,24 @@ walk_no_over w marks main want base h (found i x p) s z =
 -- ---- the end of a field
 
 module _ (f : List ℕ) (i base used count : ℕ) (kept : Kept) where
-  pub last_none : length f ≤ i → ended_at (out_end base) (base + i) used count kept ≡ last_of base used count kept (rest f i)
+  pub last_none : length f ≤ i → out_of base used count kept i ≡ last_of base used count kept (rest f i)
   last_none h = rw (rest_none f i h)
 
   module _ (h : i < length f) where
     pub last_end : get_or f i 0 ≡ 255 → ended_at 0 0 used count kept ≡ last_of base used count kept (rest f i)
     last_end e = rw (rest_end f i h e)
 
-    pub last_pad : Lasts f i → get_or f i 0 ≡ 0 → ended_at (out_end base) (base + (i + 1)) used count kept ≡ last_of base used count kept (rest f i)
+    pub last_pad : Lasts f i → get_or f i 0 ≡ 0 → out_of base used count kept (i + 1) ≡ last_of base used count kept (rest f i)
     last_pad y e = go (dec_lt (i + 1) (length f))
       where
-        go : Dec (i + 1 < length f) → ended_at (out_end base) (base + (i + 1)) used count kept ≡ last_of base used count kept (rest f i)
+        go : Dec (i + 1 < length f) → out_of base used count kept (i + 1) ≡ last_of base used count kept (rest f i)
         go (yes l) = absurd ((y.no_mark l).0 e)
         go (no l) = let k : length f ≤ i + 1 = omega arith in rw (rest_pad f i h e, rest_none f (i + 1) k)
 
-    pub last_cut : Lasts f i → (get_or f i 0 ≡ 255 → ⊥) → (get_or f i 0 ≡ 0 → ⊥) → stopped_at 2 (base + i) ≡ last_of base used count kept (rest f i)
+    pub last_cut : Lasts f i → (get_or f i 0 ≡ 255 → ⊥) → (get_or f i 0 ≡ 0 → ⊥) → stopped_at 4 (base + i) ≡ last_of base used count kept (rest f i)
     last_cut y e z = go (dec_lt (i + 1) (length f))
       where
-        go : Dec (i + 1 < length f) → stopped_at 2 (base + i) ≡ last_of base used count kept (rest f i)
+        go : Dec (i + 1 < length f) → stopped_at 4 (base + i) ≡ last_of base used count kept (rest f i)
         go (yes l) = rw (y.past l)
         go (no l) = let k : length f ≤ i + 1 = omega arith in rw (rest_last f i h z e k)
 
@@ -201,19 +208,19 @@ lasts_none f i y = go (dec_lt i (length f))
 
 -- ---- the walk that has come to i
 
-pub record Going (w : List ℕ) (marks main : Bool) (want base : ℕ) (f : List ℕ) (s : Walked) (set : List ℕ) (k : Kept) (count pads i : ℕ) (set' : List ℕ) : Type 0 where
+pub record Going (w : List ℕ) (marks main : Bool) (want base : ℕ) (f : List ℕ) (s : Ending) (set : List ℕ) (k : Kept) (count pads i : ℕ) (set' : List ℕ) : Type 0 where
   pub at_in : i ≤ length f
   pub pads_in : pads ≤ i
   pub few_whole : k.whole ≤ s.kept.whole + i
   pub few_count : count ≤ s.count + i
   pub same : walk_of w marks main want base (record { set = set'; kept = k; used = s.used + (i - pads); count = count }) (rest f i) ≡ walk_of w marks main want base (run_of set s) (rest f 0)
 
-pub going_begins : (w : List ℕ) (marks main : Bool) (want base : ℕ) (f : List ℕ) (s : Walked) (set : List ℕ) → Going w marks main want base f s set s.kept s.count 0 0 set
+pub going_begins : (w : List ℕ) (marks main : Bool) (want base : ℕ) (f : List ℕ) (s : Ending) (set : List ℕ) → Going w marks main want base f s set s.kept s.count 0 0 set
 going_begins w marks main want base f s set =
     let u : s.used + (0 - 0) ≡ s.used = omega arith in
     record { at_in = omega arith; pads_in = omega arith; few_whole = omega arith; few_count = omega arith; same = rw u refl }
 
-module _ {w : List ℕ} {marks main : Bool} {want base : ℕ} {f : List ℕ} {s : Walked} {set : List ℕ} {k : Kept} {count pads i : ℕ} {set' : List ℕ} (y : Going w marks main want base f s set k count pads i set') where
+module _ {w : List ℕ} {marks main : Bool} {want base : ℕ} {f : List ℕ} {s : Ending} {set : List ℕ} {k : Kept} {count pads i : ℕ} {set' : List ℕ} (y : Going w marks main want base f s set k count pads i set') where
   abbrev run : Run
   run = record { set = set'; kept = k; used = s.used + (i - pads); count = count }
 
@@ -231,7 +238,7 @@ module _ {w : List ℕ} {marks main : Bool} {want base : ℕ} {f : List ℕ} {s 
       }
 
   -- how a walk ends that has come to i
-  ends : (k' : Walk) → walk_of w marks main want base run (rest f i) ≡ k' → (r : Walked) → r ≡ walked_of k' → k'.run.set ≡ set'
+  ends : (k' : Walk) → walk_of w marks main want base run (rest f i) ≡ k' → (r : Ending) → r ≡ walked_of k' → k'.run.set ≡ set'
       → ((n : ℕ) → Few n s → Few (n + length f) (walked_of k')) → Walks w marks main want base f s set r set'
   ends k' q r e z few =
       record {
@@ -251,14 +258,18 @@ module _ {w : List ℕ} {marks main : Bool} {want base : ℕ} {f : List ℕ} {s 
   few_stop : (a b n : ℕ) → Few n s → Few (n + length f) (walked_of (stop run a b))
   few_stop a b n h = record { whole = omega arith; used = omega arith; count = omega arith }
 
-  walk_last : (p : Parse) → NotFound p → rest f i ≡ p → (r : Walked) → r ≡ last_of base (s.used + (i - pads)) count k p → Walks w marks main want base f s set r set'
+  walk_last : (p : Parse) → NotFound p → rest f i ≡ p → (r : Ending) → r ≡ last_of base (s.used + (i - pads)) count k p → Walks w marks main want base f s set r set'
   unfolding walk_of
   walk_last ended n q r e = ends (done run 0 0) (ap (walk_of w marks main want base run) q) r e refl (few_done 0 0)
-  walk_last (ran_out_value j) n q r e = ends (done run (out_end base) (base + j)) (ap (walk_of w marks main want base run) q) r e refl (few_done (out_end base) (base + j))
-  walk_last (beyond j) n q r e = ends (stop run 2 (base + j)) (ap (walk_of w marks main want base run) q) r e refl (few_stop 2 (base + j))
+  walk_last (ran_out_value j) n q r e = go (eqb base 0) (ap (walk_of w marks main want base run) q) e
+    where
+      go : (b : Bool) → walk_of w marks main want base run (rest f i) ≡ cond b (done run 0 0) (stop run 5 (base + j)) → r ≡ cond b (ended_at 0 0 (s.used + (i - pads)) count k) (stopped_at 5 (base + j)) → Walks w marks main want base f s set r set'
+      go true u v = ends (done run 0 0) u r v refl (few_done 0 0)
+      go false u v = ends (stop run 5 (base + j)) u r v refl (few_stop 5 (base + j))
+  walk_last (beyond j) n q r e = ends (stop run 4 (base + j)) (ap (walk_of w marks main want base run) q) r e refl (few_stop 4 (base + j))
   walk_last (found j x p) n q r e = absurd n
 
-  pub going_last : Lasts f i → (r : Walked) → r ≡ last_of base (s.used + (i - pads)) count k (rest f i) → Walks w marks main want base f s set r set'
+  pub going_last : Lasts f i → (r : Ending) → r ≡ last_of base (s.used + (i - pads)) count k (rest f i) → Walks w marks main want base f s set r set'
   going_last z r e = walk_last (rest f i) (lasts_none f i z) refl r e
 
   module _ (h : i + 1 < length f) where
@@ -268,7 +279,7 @@ module _ {w : List ℕ} {marks main : Bool} {want base : ℕ} {f : List ℕ} {s 
     abbrev code : ℕ
     code = get_or f i 0
 
-    pub going_end : code ≡ 255 → (r : Walked) → r ≡ ended_at 0 0 (s.used + (i - pads)) count k → Walks w marks main want base f s set r set'
+    pub going_end : code ≡ 255 → (r : Ending) → r ≡ ended_at 0 0 (s.used + (i - pads)) count k → Walks w marks main want base f s set r set'
     unfolding walk_of
     going_end e r q = ends (done run 0 0) (ap (walk_of w marks main want base run) (rest_end f i h' e)) r q refl (few_done 0 0)
 
@@ -287,9 +298,9 @@ module _ {w : List ℕ} {marks main : Bool} {want base : ℕ} {f : List ℕ} {s 
       abbrev size : ℕ
       size = get_or f (i + 1) 0
 
-      pub going_long : length f < i + 2 + size → (r : Walked) → r ≡ stopped_at 2 (base + i) → Walks w marks main want base f s set r set'
+      pub going_long : length f < i + 2 + size → (r : Ending) → r ≡ stopped_at 4 (base + i) → Walks w marks main want base f s set r set'
       unfolding walk_of
-      going_long l r q = ends (stop run 2 (base + i)) (ap (walk_of w marks main want base run) (rest_long f i h' z e h l)) r q refl (few_stop 2 (base + i))
+      going_long l r q = ends (stop run 4 (base + i)) (ap (walk_of w marks main want base run) (rest_long f i h' z e h l)) r q refl (few_stop 4 (base + i))
 
       module _ (m : marked w code ≡ true) (t : ℕ) (q : t ≡ i + 2 + size) (l : t ≤ length f) where
         -- the data, as the part from i + 2 up to t
@@ -308,12 +319,12 @@ module _ {w : List ℕ} {marks main : Bool} {want base : ℕ} {f : List ℕ} {s 
         is : rest f i ≡ found i (record { tag = code; body = body }) (rest f t)
         is = rest_found f i h' z e h long ∙ rw (n_is, q) refl
 
-        pub going_stop : (n : ℕ) → n ≡ over_stop_value main k.over code body → (n ≡ 0 → ⊥) → (r : Walked) → r ≡ stopped_at n (base + i) → Walks w marks main want base f s set r set'
+        pub going_stop : (n : ℕ) → n ≡ stop_number (over_stop_value main k.over code body) → (n ≡ 0 → ⊥) → (r : Ending) → r ≡ stopped_at n (base + i) → Walks w marks main want base f s set r set'
         unfolding walk_of
         going_stop n a x r b = ends (stop run n (base + i)) (ap (walk_of w marks main want base run) is ∙ turn) r b refl (few_stop n (base + i))
           where
             turn : walk_of w marks main want base run (found i (record { tag = code; body = body }) (rest f t)) ≡ stop run n (base + i)
-            turn = rw (m, ne_eqb (over_stop_value main k.over code body) 0 (λ o. x (a ∙ o)), a) refl
+            turn = rw (m, ne_eqb (stop_number (over_stop_value main k.over code body)) 0 (λ o. x (a ∙ o)), a) refl
 
         kept_few : (k' : Kept) → k' ≡ kept_after_value want k code base i body → k'.whole ≤ s.kept.whole + t
         kept_few k' a = go (eqb want code) refl
@@ -326,9 +337,9 @@ module _ {w : List ℕ} {marks main : Bool} {want base : ℕ} {f : List ℕ} {s 
                 let u : k'.whole ≡ k.whole = rw o at (ap (λ (x : Kept). x.whole) a) in
                 omega (arith, u, y.few_whole, q)
 
-        pub going_on : (n : ℕ) → n ≡ over_stop_value main k.over code body → n ≡ 0 → (k' : Kept) → k' ≡ kept_after_value want k code base i body → Going w marks main want base f s set k' (count + 1) pads t set'
+        pub going_on : stop_number (over_stop_value main k.over code body) ≡ 0 → (k' : Kept) → k' ≡ kept_after_value want k code base i body → Going w marks main want base f s set k' (count + 1) pads t set'
         unfolding walk_of
-        going_on n a x k' b =
+        going_on x k' b =
             record {
               at_in = l;
               pads_in = omega (arith, y.pads_in, q);
@@ -338,7 +349,7 @@ module _ {w : List ℕ} {marks main : Bool} {want base : ℕ} {f : List ℕ} {s 
             }
           where
             turn : walk_of w marks main want base run (found i (record { tag = code; body = body }) (rest f t)) ≡ walk_of w marks main want base (met want base run i (record { tag = code; body = body })) (rest f t)
-            turn = rw (m, eq-eqb (over_stop_value main k.over code body) 0 (sym a ∙ x)) refl
+            turn = rw (m, eq-eqb (stop_number (over_stop_value main k.over code body)) 0 x) refl
 
             sum : met want base run i (record { tag = code; body = body }) ≡ record { set = set'; kept = k'; used = s.used + (t - pads); count = count + 1 }
             sum =

@@ -1,4 +1,4 @@
--- WHAT A MESSAGE'S LENGTH, ITS COOKIE AND AN OPTION 52 ARE JUDGED BY: the contracts of `unfit`, `over_stop`, `over_after` and `number_of`. Assumes nothing.
+-- WHAT A MESSAGE'S LENGTH, ITS COOKIE AND AN OPTION 52 ARE JUDGED BY: the contracts of `fit`, `over_stop` and `over_after`. Assumes nothing.
 use Rattle.std.specs.Prelude.{Bool, true, cond, not, List, ℕ, eqb, ltb, length, get_or, take, drop}
 use Rattle.options.specs.Message.{cookie, shortest, longest}
 use Rattle.options.specs.Reading.{same, right52}
@@ -20,3 +20,7 @@ over_after_value over c d = cond (eqb c 52) (cond (eqb over 0) (get_or d 0 0) ov
 -- the number of the refusal that an end is: 1 no END, 2 an option that runs past, 3 and 4 as above
 abbrev pub number_of : ℕ → ℕ
 number_of end = cond (eqb end 1) 5 (cond (eqb end 2) 4 (cond (eqb end 3) 6 7))
+
+-- the same where an option 52 may be refused: 0 where it is not
+abbrev pub stop_number : ℕ → ℕ
+stop_number end = cond (eqb end 0) 0 (number_of end)

@@ -1,9 +1,23 @@
 -- WHAT A WALK OVER A MESSAGE TELLS, as it follows from the reading: the contracts of `find` and `codes`. Assumes nothing.
-use Rattle.std.specs.Prelude.{◌≡◌, Bool, true, false, cond, List, [], ◌∷◌, ℕ, ◌+◌, length}
-use Rattle.options.specs.Message.{Rec, Opt, place, data_start, end_to_end}
+use Rattle.std.specs.Prelude.{◌≡◌, Bool, true, false, cond, List, [], ◌∷◌, ℕ, ◌+◌, length, Result, Ok, Err}
+use Rattle.options.specs.Message.{Opt, place, data_start, end_to_end}
 use Rattle.options.specs.Reading.{Reading, accepted, refused, items, overload, read_message, pieces}
 use Rattle.options.specs.Answers.{present}
+use Rattle.refusal.specs.declared.Refusal.{Refusal}
+use Rattle.refusal.specs.Refused.{number_of}
 use Rattle.message.specs.declared.Scanned.{Scanned}
+
+-- what is told of a message: of the wanted code where the data of its first piece start, where its last piece stands and the bytes of all; the bytes that the options take
+-- and their number; the value of option 52; number and place of a refusal
+pub record Scan : Type 0 where
+  pub start : ℕ
+  pub last : ℕ
+  pub whole : ℕ
+  pub used : ℕ
+  pub count : ℕ
+  pub place : ℕ
+  pub over : ℕ
+  pub number : ℕ
 
 -- where the data of the first piece start, or 0 where there is none
 abbrev pub first_start : List Opt → ℕ
@@ -21,11 +35,11 @@ used_by [] = 0
 used_by (o ∷ os) = 2 + length o.item.body + used_by os
 
 -- a refusal tells nothing of what was met before it
-abbrev pub refused_at : ℕ → ℕ → Scanned
+abbrev pub refused_at : ℕ → ℕ → Scan
 refused_at n p = record { start = 0; last = 0; whole = 0; used = 0; count = 0; place = p; over = 0; number = n }
 
 -- the pieces of the wanted code; what is counted of all options is told only where they are marked
-abbrev pub scan_in : Bool → ℕ → Reading → Scanned
+abbrev pub scan_in : Bool → ℕ → Reading → Scan
 scan_in marks want (refused n p) = refused_at n p
 scan_in marks want (accepted os) =
     record {
@@ -40,16 +54,24 @@ scan_in marks want (accepted os) =
     }
 
 -- "Every answer names the first piece"
-unfoldable pub scan_of : ℕ → List ℕ → Scanned
+unfoldable pub scan_of : ℕ → List ℕ → Scan
 unfolding pieces end_to_end place_after used_by items overload read_message
 scan_of want m = scan_in false want (read_message m)
 
 -- the size and number of all options, and option 52
-unfoldable pub survey_of : List ℕ → Scanned
+unfoldable pub survey_of : List ℕ → Scan
 unfolding pieces end_to_end place_after used_by items overload read_message
 survey_of m = scan_in true 52 (read_message m)
 
 -- r is what is told of m, and w its codes as four words (document 01: the roll call)
-pub record Surveys (m : List ℕ) (r : Scanned) (w : List ℕ) : Type 0 where
+pub record Surveys (m : List ℕ) (r : Scan) (w : List ℕ) : Type 0 where
   pub is : r ≡ survey_of m
   pub codes : w ≡ (present m).words
+
+-- what the code tells, case by case: of an accepted message neither number nor place, of a refused one nothing else
+abbrev pub told_of : Scanned → Scan
+told_of w = record { start = w.start; last = w.last; whole = w.whole; used = w.used; count = w.count; place = 0; over = w.over; number = 0 }
+
+abbrev pub told_by : Result Scanned Refusal → Scan
+told_by (Ok w) = told_of w
+told_by (Err r) = refused_at (number_of r.rule) r.place

@@ -1,12 +1,15 @@
 -- THE WALK OF ONE FIELD over a set of watched codes: the twin of `judge` that the code follows. An option whose code is not watched is passed over; what an end
 -- means is the caller's. No public contract rests on this: crate message ties it to `read_message`. Assumes nothing.
-use Rattle.std.specs.Prelude.{◌≡◌, Bool, true, false, cond, List, [], ◌∷◌, ℕ, ◌+◌, ◌-◌, ◌≤◌, ◌<◌, eqb, ltb, length, get_or, drop}
+use Rattle.std.specs.Prelude.{◌≡◌, Bool, true, false, cond, List, ℕ, ◌+◌, ◌-◌, ◌≤◌, ◌<◌, eqb, ltb, length, get_or, drop, Result, Ok, Err}
 use Rattle.options.specs.Message.{Rec}
 use Rattle.options.specs.Reading.{Parse, ended, ran_out_value, beyond, found, parse}
 use Rattle.options.specs.CodeSet.{marked, with_mark}
+use Rattle.refusal.specs.declared.Refusal.{Refusal}
+use Rattle.refusal.specs.Refused as refused
 use Rattle.message.specs.declared.Kept.{Kept}
 use Rattle.message.specs.declared.Walked.{Walked}
 use Rattle.message.specs.declared.Stop.{Stop}
+use Rattle.message.specs.Judging.{stop_number}
 pub use Rattle.message.specs.Judging.{over_stop_value, over_after_value}
 
 -- what is done only where options are marked
@@ -23,7 +26,7 @@ pub record Run : Type 0 where
   pub used : ℕ
   pub count : ℕ
 
--- what was met when the walk ended, how (0: END; 1: no more bytes, and END is needed; 2: an option runs past; 3: a wrong option 52; 4: a second one) and where
+-- what was met when the walk ended, the number of its refusal (0: none; 5: no more bytes, and END is needed; 4: an option runs past; 6: a wrong option 52; 7: a second one) and where
 pub record Walk : Type 0 where
   pub run : Run
   pub end : ℕ
@@ -64,34 +67,47 @@ done s n p = record { run = s; end = n; place = p }
 abbrev pub stop : Run → ℕ → ℕ → Walk
 stop s n p = done (begun s.set) n p
 
--- how a walk ends where the bytes run out: a message's field needs its END; bytes that begin at 0 are no message's, and "running out between items also ends" (request 05)
-abbrev pub out_end : ℕ → ℕ
-out_end base = cond (eqb base 0) 0 1
+-- the bytes run out: a message's field needs its END; bytes that begin at 0 are no message's, and "running out between items also ends" (request 05)
+abbrev pub out : ℕ → Run → ℕ → Walk
+out base s i = cond (eqb base 0) (done s 0 0) (stop s 5 (base + i))
 
 -- in the options field or in another (main), of a field that begins at base
 unfoldable pub walk_of : List ℕ → Bool → Bool → ℕ → ℕ → Run → Parse → Walk
 walk_of w marks main want base s ended = done s 0 0
-walk_of w marks main want base s (ran_out_value i) = done s (out_end base) (base + i)
-walk_of w marks main want base s (beyond i) = stop s 2 (base + i)
+walk_of w marks main want base s (ran_out_value i) = out base s i
+walk_of w marks main want base s (beyond i) = stop s 4 (base + i)
 walk_of w marks main want base s (found i x rest) =
     let on : Walk = walk_of w marks main want base (met want base s i x) rest in
     let past : Walk = walk_of w marks main want base (passed marks s x) rest in
-    let n : ℕ = over_stop_value main s.kept.over x.tag x.body in
+    let n : ℕ = stop_number (over_stop_value main s.kept.over x.tag x.body) in
     cond (marked w x.tag) (cond (eqb n 0) on (stop s n (base + i))) past
 
--- ---- the code's structs
+-- ---- what the code gives
 
-abbrev pub ended_at : ℕ → ℕ → ℕ → ℕ → Kept → Walked
+-- what was met but the set, and how the walk ended
+pub record Ending : Type 0 where
+  pub kept : Kept
+  pub used : ℕ
+  pub count : ℕ
+  pub place : ℕ
+  pub end : ℕ
+
+abbrev pub ended_at : ℕ → ℕ → ℕ → ℕ → Kept → Ending
 ended_at end place used count kept = record { kept = kept; used = used; count = count; place = place; end = end }
 
-abbrev pub stopped_at : ℕ → ℕ → Walked
+abbrev pub stopped_at : ℕ → ℕ → Ending
 stopped_at end place = ended_at end place 0 0 nothing
 
-abbrev pub walked_of : Walk → Walked
+-- the same as the code gives it, case by case
+abbrev pub ending_of : Result Walked Refusal → Ending
+ending_of (Ok w) = ended_at 0 0 w.used w.count w.kept
+ending_of (Err r) = stopped_at (refused.number_of r.rule) r.place
+
+abbrev pub walked_of : Walk → Ending
 walked_of k = ended_at k.end k.place k.run.used k.run.count k.run.kept
 
 -- what a walk s has met, with its set of codes
-abbrev pub run_of : List ℕ → Walked → Run
+abbrev pub run_of : List ℕ → Ending → Run
 run_of set s = record { set = set; kept = s.kept; used = s.used; count = s.count }
 
 -- what is met by the offset j, passing over all options from i on
@@ -125,20 +141,23 @@ abbrev pub past_set : Bool → List ℕ → ℕ → List ℕ → ℕ → List �
 past_set marks f e set c = cond (ltb (length f) e) set (set_after marks set c)
 
 -- how a walk ends where no watched option is left
-abbrev pub last_of : ℕ → ℕ → ℕ → Kept → Parse → Walked
+abbrev pub out_of : ℕ → ℕ → ℕ → Kept → ℕ → Ending
+out_of base used count kept i = cond (eqb base 0) (ended_at 0 0 used count kept) (stopped_at 5 (base + i))
+
+abbrev pub last_of : ℕ → ℕ → ℕ → Kept → Parse → Ending
 last_of base used count kept ended = ended_at 0 0 used count kept
-last_of base used count kept (ran_out_value i) = ended_at (out_end base) (base + i) used count kept
-last_of base used count kept (beyond i) = stopped_at 2 (base + i)
+last_of base used count kept (ran_out_value i) = out_of base used count kept i
+last_of base used count kept (beyond i) = stopped_at 4 (base + i)
 last_of base used count kept (found i x rest) = stopped_at 0 0
 
 -- what was met is not more than n
-pub record Few (n : ℕ) (s : Walked) : Type 0 where
+pub record Few (n : ℕ) (s : Ending) : Type 0 where
   pub whole : s.kept.whole ≤ n
   pub used : s.used ≤ n
   pub count : s.count ≤ n
 
 -- r is the walk of f on top of s, and what is met with it is not more than n
-pub record Walks (w : List ℕ) (marks main : Bool) (want base : ℕ) (f : List ℕ) (s : Walked) (set : List ℕ) (r : Walked) (set' : List ℕ) : Type 0 where
+pub record Walks (w : List ℕ) (marks main : Bool) (want base : ℕ) (f : List ℕ) (s : Ending) (set : List ℕ) (r : Ending) (set' : List ℕ) : Type 0 where
   pub is : r ≡ walked_of (walk_of w marks main want base (run_of set s) (parse 0 0 f))
   pub codes : set' ≡ (walk_of w marks main want base (run_of set s) (parse 0 0 f)).run.set
   pub few : (n : ℕ) → Few n s → Few (n + length f) r

@@ -1,27 +1,16 @@
 -- The walk over a message field after field, as the code goes: no public contract rests on this. Assumes nothing.
 use Rattle.std.specs.Prelude.{◌≡◌, Bool, true, false, cond, List, [], ◌∷◌, ℕ, ◌+◌, ◌≤◌, ◌<◌, length, drop, eqb}
 use Rattle.options.specs.Message.{Opt, Field, options, file, sname, start, bytes}
-use Rattle.options.specs.Reading.{parse, is_options_value, file_in, sname_in, read_message, accepted}
+use Rattle.options.specs.Reading.{parse, is_options_value, read_message, accepted}
 use Rattle.options.specs.CodeSet.{marked, with_mark}
 use Rattle.options.specs.Vendor.{Item, Items, listed, past, items_in}
-use Rattle.message.specs.declared.Walked.{Walked}
-use Rattle.message.specs.declared.Scanned.{Scanned}
 use Rattle.message.specs.Active.{active_in}
 pub use Rattle.message.specs.Judging.{unfit_of, number_of}
-use Rattle.message.specs.Scan.{refused_at, scan_in}
-use Rattle.message.specs.Walk.{Run, Walk, begun, done, walk_of, walked_of}
+use Rattle.message.specs.Scan.{Scan, refused_at, scan_in}
+use Rattle.message.specs.Walk.{Ending, Run, Walk, begun, walk_of, walked_of}
 
--- the field that is read after another: 0 options, 1 file, 2 sname, 3 none
-abbrev pub after_file_value : ℕ → ℕ
-after_file_value over = cond (sname_in over) 2 3
-
-abbrev pub after_options_value : ℕ → ℕ
-after_options_value over = cond (file_in over) 1 (after_file_value over)
-
-abbrev pub next_field_value : ℕ → ℕ → ℕ
-next_field_value turn over = cond (eqb over 0) 3 (cond (eqb turn 0) (after_options_value over) (cond (eqb turn 1) (after_file_value over) 3))
-
-abbrev pub scanned_of : Bool → Walked → Scanned
+-- what the walk of all fields tells
+abbrev pub scanned_of : Bool → Ending → Scan
 scanned_of marks s =
     cond (eqb s.end 0)
     (record {
@@ -34,7 +23,7 @@ scanned_of marks s =
       over = s.kept.over;
       number = 0;
     })
-    (refused_at (number_of s.end) s.place)
+    (refused_at s.end s.place)
 
 -- ---- field after field
 
@@ -43,6 +32,11 @@ abbrev pub start_from : ℕ → Field → ℕ
 start_from first options = first
 start_from first file = start file
 start_from first sname = start sname
+
+abbrev pub end_place : ℕ → Field → ℕ
+end_place len options = len
+end_place len file = 236
+end_place len sname = 108
 
 abbrev pub bytes_from : ℕ → Field → List ℕ → List ℕ
 bytes_from first options m = drop first m
@@ -69,7 +63,7 @@ others_in set [] = set
 others_in set (o ∷ os) = others_in (cond (eqb o.item.tag 52) set (with_mark set o.item.tag)) os
 
 -- r is the walk of all fields, which leaves the set w'
-pub record Gives (w : List ℕ) (marks : Bool) (want first : ℕ) (m : List ℕ) (set : List ℕ) (r : Walked) (set' : List ℕ) : Type 0 where
+pub record Gives (w : List ℕ) (marks : Bool) (want first : ℕ) (m : List ℕ) (set : List ℕ) (r : Ending) (set' : List ℕ) : Type 0 where
   pub is : r ≡ walked_of (all_walked w marks want first m set)
   pub codes : set' ≡ (all_walked w marks want first m set).run.set
 
@@ -79,7 +73,7 @@ pub data Laid (w : List ℕ) (first : ℕ) (m : List ℕ) : Type 0 where
   in_none : first ≡ 0 → marked w 52 ≡ false → Laid w first m
 
 -- r is what is told of m; where options are marked, and 52 is the wanted code, the set gets the codes of all others
-pub record Scans (marks : Bool) (want : ℕ) (m : List ℕ) (set : List ℕ) (r : Scanned) (set' : List ℕ) : Type 0 where
+pub record Scans (marks : Bool) (want : ℕ) (m : List ℕ) (set : List ℕ) (r : Scan) (set' : List ℕ) : Type 0 where
   pub is : r ≡ scan_in marks want (read_message m)
   pub codes : marks ≡ true → want ≡ 52 → (os : List Opt) → read_message m ≡ accepted os → set' ≡ others_in set os
 
@@ -91,7 +85,7 @@ used_by_items [] = 0
 used_by_items (x ∷ xs) = 2 + length x.item.body + used_by_items xs
 
 -- what is told of them: an item that runs past has the number that an option has
-abbrev pub told_items : Items → Scanned
+abbrev pub told_items : Items → Scan
 told_items (past i) = refused_at 4 i
 told_items (listed xs) = record { start = 0; whole = 0; last = 0; used = used_by_items xs; count = length xs; place = 0; over = 0; number = 0 }
 
@@ -104,6 +98,6 @@ abbrev pub Bare : Bool → Bool → ℕ → List ℕ → Type 0
 Bare bare marks want m = bare ≡ true → (0 < length m) × (want ≡ 0) × (marks ≡ true)
 
 -- r is what is told of a message, or of bytes that are none's
-abbrev pub Tells : Bool → Bool → ℕ → List ℕ → List ℕ → Scanned → List ℕ → Type 0
+abbrev pub Tells : Bool → Bool → ℕ → List ℕ → List ℕ → Scan → List ℕ → Type 0
 Tells false marks want m set r set' = Scans marks want m set r set'
 Tells true marks want m set r set' = r ≡ told_items (items_in (parse 0 0 m))

@@ -1,7 +1,7 @@
 // One walk over a whole message (document 01, The message and its fields): the length and the cookie, then options, file and sname.
 #![tactic(auto)]
 
-ghost use Rattle.std.specs.Prelude.{◌≡◌, Bool, true, cond, not, ◌+◌, ◌-◌, ◌<◌, ◌≤◌, ◌^◌, eqb, length, take, drop};
+ghost use Rattle.std.specs.Prelude.{◌≡◌, IfErr, Ok, Bool, true, cond, not, ◌+◌, ◌-◌, ◌<◌, ◌≤◌, ◌^◌, eqb, length, take, drop};
 ghost use Rattle.options.specs.Message.{start, bytes, cookie};
 ghost use Rattle.options.specs.Reading.{same, parse, right52, file_in, sname_in};
 ghost use Rattle.options.specs.CodeSet.{marked};
@@ -9,12 +9,17 @@ ghost use Rattle.options.specs.Vendor.{items_in};
 ghost use Rattle.message.specs.Fields.{field_of, FieldsComeBack};
 ghost use Rattle.message.specs.Active.{active_in};
 ghost use Rattle.message.specs.Part.{part_at};
-ghost use Rattle.message.specs.Scan.{refused_at, scan_of, Surveys};
-ghost use Rattle.message.specs.Items.{measure_of};
-ghost use Rattle.message.specs.Walk.{tallied, set_after, past_stop, past_set, Passes, over_stop_value, over_after_value, kept_after_value, stopped_at, ended_at, out_end, Lasts, last_of, Few, Walks};
-ghost use Rattle.message.specs.Walking.{unfit_of, after_file_value, after_options_value, next_field_value, number_of, scanned_of, Laid, Gives, low_watched, Bare, Tells};
+ghost use Rattle.refusal.specs.Refused.{number_in, rule_in};
+ghost use Rattle.refusal.specs.declared.Rule.TheVariants.{ItemTruncated};
+ghost use Rattle.message.specs.Scan.{told_of, told_by, scan_of, Surveys};
+ghost use Rattle.message.specs.Items.{measure_of, measured_by};
+ghost use Rattle.message.specs.Walk.{tallied, set_after, past_stop, past_set, Passes, over_stop_value, over_after_value, kept_after_value, ending_of, out_of, Lasts, last_of, Few, Walks};
+ghost use Rattle.message.specs.Judging.{stop_number};
+ghost use Rattle.message.specs.Walking.{unfit_of, scanned_of, start_from, end_place, Laid, Gives, low_watched, Bare, Tells};
 
-#[derive(Clone, Copy)]
+use refusal::{Refusal, Rule};
+
+#[derive(Clone, Copy, Debug, PartialEq, Eq)]
 pub enum Field {
     Options,
     File,
@@ -72,8 +77,8 @@ fn cookie_ok(m: &[u8]) -> bool
     requires { 240 ≤ length m.now }
     ensures { result ≡ same (take 4 (drop 236 m.now)) cookie }
 {
-    // One comparison, of the four bytes 99, 130, 83, 99 as a number, the low byte first: so the compiler takes them from memory as they are.
-    num::be32(m[239], m[238], m[237], m[236]) == 1666417251
+    // One comparison, of the four bytes 99, 130, 83, 99 as a number: so the compiler takes them from memory as they are.
+    u32::from_le_bytes([m[236], m[237], m[238], m[239]]) == 1666417251
 }
 
 // Whether file is active, by the value of option 52.
@@ -92,6 +97,7 @@ pub fn sname_on(v: u32) -> bool
 
 // What is kept of the options met: of those with the wanted code, where the data of the first start in the message (0: none), where the code byte of the last
 // stands, and how many bytes of data all have; and the value of option 52 (0: not met).
+// Zero and no Option for start and over: no data start at 0, no option 52 has that value, and the definitions count so.
 #[derive(Clone, Copy)]
 pub struct Kept {
     pub start: usize,
@@ -100,18 +106,27 @@ pub struct Kept {
     pub over: u32,
 }
 
-// A walk: what is kept; how many bytes the options take in their fields and how many they are, where they are marked (else 0); how it ended (0: END; 1: no
-// more bytes; 2: an option runs past its field; 3: an option 52 that is refused; 4: a second one), and at which place of the message.
+// What a walk has met: what is kept; how many bytes the options take in their fields, and how many they are where they are marked (else 0).
 #[derive(Clone, Copy)]
 pub struct Walked {
     pub kept: Kept,
     pub used: usize,
     pub count: usize,
-    pub place: usize,
-    pub end: u32,
 }
 
-// Where `pass` stops, how many options it has passed where they are marked, and whether a watched code stands there.
+// Nothing met yet.
+const NOTHING: Walked = Walked {
+    kept: Kept {
+        start: 0,
+        last: 0,
+        whole: 0,
+        over: 0,
+    },
+    used: 0,
+    count: 0,
+};
+
+// Where `pass` stops, how many options it has passed where they are marked, and whether a watched code stands there. A flag and no enum: both ways have the two numbers.
 #[derive(Clone, Copy)]
 pub struct Stop {
     pub at: usize,
@@ -120,74 +135,67 @@ pub struct Stop {
 }
 
 // What is counted only where options are marked.
-fn tally(marks: bool, n: usize) -> usize
-    ensures { result ≡ tallied marks n }
+fn tally<const MARKED: bool>(n: usize) -> usize
+    ensures { result ≡ tallied MARKED n }
 {
-    if marks { n } else { 0 }
-}
-
-fn watches(watched: &[u64; 4], c: u8) -> bool
-    ensures { result ≡ marked watched.now c }
-{
-    let x = watched[codeset::word(c)];
-    (x >> (c % 64)) % 2 == 1
+    if MARKED { n } else { 0 }
 }
 
 // Puts a code into the set and counts it, where options are marked.
-fn mark_if(marks: bool, set: &mut [u64; 4], c: u8, count: usize) -> usize
+fn mark_if<const MARKED: bool>(set: &mut [u64; 4], c: u8, count: usize) -> usize
     requires { count ≤ 2 ^ 63 }
-    ensures { (result ≡ count + tallied marks 1) × (set.new ≡ set_after marks set.old c) }
+    ensures { (result ≡ count + tallied MARKED 1) × (set.new ≡ set_after MARKED set.old c) }
 {
-    if !marks {
+    if !MARKED {
         return count;
     }
-    let k = codeset::word(c);
-    set[k] = set[k] | (1u64 << (c % 64));
+    codeset::insert(set, c);
     count + 1
 }
 
 // Passes over the options whose codes are not watched. The last byte of a field holds no whole option, so it is not looked at.
-fn pass(
+fn pass<const MARKED: bool>(
     watched: &[u64; 4],
-    marks: bool,
     set: &mut [u64; 4],
     f: &[u8],
     end: usize,
     from: usize,
 ) -> Stop
     requires { (from ≤ length f.now) × (length f.now ≤ 2 ^ 63) × (end ≡ length f.now - 1) × (marked watched.now 0 ≡ true) × (marked watched.now 255 ≡ true) }
-    ensures { Passes watched.now marks f.now from set.old result set.new }
+    ensures { Passes watched.now MARKED f.now from set.old result set.new }
 {
     let mut i = from;
     let mut count: usize = 0;
-    while i < end {
+    if end <= i {
+        return Stop {
+            at: i,
+            count,
+            watched: false,
+        };
+    }
+    // No iterator: how far a step goes is read from the bytes. The bound is tested once, below.
+    loop {
         let c = f[i];
-        if watches(watched, c) {
+        if codeset::has(watched, c) {
             return Stop {
                 at: i,
                 count,
                 watched: true,
             };
         }
-        let e = i + 2 + num::wide(f[i + 1]);
+        let e = i + 2 + usize::from(f[i + 1]);
         // Only an option that ends before the last byte leaves room for another.
         if end <= e {
-            return past(marks, set, f, i, e, c, count);
+            return past::<MARKED>(set, f, i, e, c, count);
         }
-        count = mark_if(marks, set, c, count);
+        count = mark_if::<MARKED>(set, c, count);
         i = e;
-    }
-    Stop {
-        at: i,
-        count,
-        watched: false,
     }
 }
 
 // Where passing over stops at an option that no other can follow: at the option, if it runs past the field; else it is passed over too. The option begins at
 // i, and next is the first offset after it.
-fn past(
-    marks: bool,
+fn past<const MARKED: bool>(
     set: &mut [u64; 4],
     f: &[u8],
     i: usize,
@@ -196,7 +204,7 @@ fn past(
     count: usize,
 ) -> Stop
     requires { count ≤ 2 ^ 63 }
-    ensures { (result ≡ past_stop marks f.now i next count) × (set.new ≡ past_set marks f.now next set.old c) }
+    ensures { (result ≡ past_stop MARKED f.now i next count) × (set.new ≡ past_set MARKED f.now next set.old c) }
 {
     if f.len() < next {
         return Stop {
@@ -205,7 +213,7 @@ fn past(
             watched: false,
         };
     }
-    let n = mark_if(marks, set, c, count);
+    let n = mark_if::<MARKED>(set, c, count);
     Stop {
         at: next,
         count: n,
@@ -218,73 +226,40 @@ fn after_pads(f: &[u8], from: usize) -> usize
     requires { from ≤ length f.now }
     ensures { (from ≤ result) × (result ≤ length f.now) × (parse result 0 (drop result f.now) ≡ parse from 0 (drop from f.now)) }
 {
-    let mut i = from;
-    while i < f.len() {
-        if f[i] != 0 {
-            return i;
-        }
-        i = i + 1;
-    }
-    i
+    wire::code_at(f, from).unwrap_or(f.len())
 }
 
-// Whether a walk ends at an option with this code and data: 3 or 4, or 0 where it goes on; over: the value of the option 52 before. The order of the tests is
-// the one with the fewest instructions.
-pub fn over_stop(options: bool, over: u32, c: u8, d: &[u8]) -> u32
-    ensures { result ≡ over_stop_value options over c d.now }
+// Judges an option with this code and data where it stands: a walk ends at an option 52 that is wrong, or at a second one; over: the value of the option 52 before.
+pub fn over_stop(options: bool, over: u32, c: u8, d: &[u8]) -> Result<(), Rule>
+    ensures { rule_in result ≡ stop_number (over_stop_value options over c d.now) }
 {
     if c != 52 {
-        return 0;
-    }
-    if over != 0 {
-        if over_wrong(options, d) {
-            return 3;
-        }
-        return 4; // A second one.
+        return Ok(());
     }
     if over_wrong(options, d) {
-        return 3;
+        return Err(Rule::BadOverload);
     }
-    0
+    if over != 0 {
+        return Err(Rule::Duplicate);
+    }
+    Ok(())
 }
 
 // Whether an option 52 with these data is refused where it stands.
 fn over_wrong(options: bool, d: &[u8]) -> bool
     ensures { result ≡ cond options (not (right52 d.now)) true }
 {
-    if !options {
-        return true;
-    }
-    if d.len() != 1 {
-        return true;
-    }
-    let v = d[0];
-    if v == 0 {
-        return true;
-    }
-    3 < v
-}
-
-fn byte32(x: u8) -> u32
-    ensures { result ≡ x }
-{
-    x as u32
+    !(options && matches!(d, [1..=3]))
 }
 
 // The value of option 52 after an option with this code and data; the first one stands.
 pub fn over_after(over: u32, c: u8, d: &[u8]) -> u32
     ensures { result ≡ over_after_value over c d.now }
 {
-    if c != 52 {
-        return over;
+    match d {
+        [v, ..] if c == 52 && over == 0 => u32::from(*v),
+        _ => over,
     }
-    if over != 0 {
-        return over;
-    }
-    if d.len() == 0 {
-        return 0;
-    }
-    byte32(d[0])
 }
 
 // What is kept after a watched option with this code and data, whose code byte stands at the offset i of the field that begins at base. Of the first piece it
@@ -295,21 +270,16 @@ fn kept_after(want: u8, k: Kept, c: u8, base: usize, i: usize, d: &[u8]) -> Kept
 {
     let over = over_after(k.over, c, d);
     if want != c {
-        return Kept {
-            start: k.start,
-            last: k.last,
-            whole: k.whole,
-            over,
-        };
+        return Kept { over, ..k };
     }
     let last = base + i;
     let whole = k.whole + d.len();
     if k.start != 0 {
         return Kept {
-            start: k.start,
             last,
             whole,
             over,
+            ..k
         };
     }
     Kept {
@@ -320,210 +290,154 @@ fn kept_after(want: u8, k: Kept, c: u8, base: usize, i: usize, d: &[u8]) -> Kept
     }
 }
 
-// A walk that is refused: nothing is told of what was met before. With 0: nothing met yet.
-fn stopped(end: u32, place: usize) -> Walked
-    ensures { result ≡ stopped_at end place }
+// How a walk ends where the bytes run out. A field of a message needs its END; bytes that begin at 0 are no message's, and need none.
+fn ran_out(base: usize, i: usize, met: Walked) -> Result<Walked, Refusal>
+    requires { (base ≤ 240) × (i ≤ 2 ^ 63) }
+    ensures { ending_of result ≡ out_of base met.used met.count met.kept i }
 {
-    Walked {
-        kept: Kept {
-            start: 0,
-            last: 0,
-            whole: 0,
-            over: 0,
-        },
-        used: 0,
-        count: 0,
-        place,
-        end,
+    if base == 0 {
+        return Ok(met);
     }
-}
-
-fn ended(end: u32, place: usize, used: usize, count: usize, kept: Kept) -> Walked
-    ensures { result ≡ ended_at end place used count kept }
-{
-    Walked {
-        kept,
-        used,
-        count,
-        place,
-        end,
-    }
-}
-
-// How a walk ends where the bytes run out. A field of a message needs its END; bytes that begin at 0 are no message's, and need none: 0, as at END.
-fn ran_out(base: usize) -> u32
-    ensures { result ≡ out_end base }
-{
-    if base == 0 { 0 } else { 1 }
+    Err(Rule::NoEnd.at(base + i))
 }
 
 // How a walk ends where no watched option is left, at an offset of a field.
-fn last(f: &[u8], i: usize, base: usize, used: usize, count: usize, kept: Kept) -> Walked
+fn last(f: &[u8], i: usize, base: usize, met: Walked) -> Result<Walked, Refusal>
     requires { (i ≤ length f.now) × (length f.now ≤ 2 ^ 63) × (base ≤ 240) × Lasts f.now i }
-    ensures { result ≡ last_of base used count kept (parse i 0 (drop i f.now)) }
+    ensures { ending_of result ≡ last_of base met.used met.count met.kept (parse i 0 (drop i f.now)) }
 {
     if f.len() <= i {
-        return ended(ran_out(base), base + i, used, count, kept);
+        return ran_out(base, i, met);
     }
-    let c = f[i];
-    if c == 255 {
-        return ended(0, 0, used, count, kept);
+    match f[i] {
+        255 => Ok(met),
+        0 => ran_out(base, i + 1, met),
+        _ => Err(Rule::OptionTruncated.at(base + i)),
     }
-    if c == 0 {
-        return ended(ran_out(base), base + (i + 1), used, count, kept);
-    }
-    stopped(2, base + i)
 }
 
 // Walks one field, whose first byte is at base, on top of the fields before. Of every option only those are looked at that are watched: pads, END, option
-// 52 and the wanted code.
-fn walk(
+// 52 and the wanted code. This, `fields` and `scan` are compiled into each of the three calls below: fewer instructions than one copy for all.
+#[inline(always)]
+fn walk<const MARKED: bool>(
     watched: &[u64; 4],
-    marks: bool,
     set: &mut [u64; 4],
     options: bool,
     want: u8,
     base: usize,
     f: &[u8],
     s: Walked,
-) -> Walked
-    requires { (0 < length f.now) × (length f.now ≤ 2 ^ 63) × (base ≤ 240) × (marked watched.now 0 ≡ true) × (marked watched.now 255 ≡ true) × Few 1000000 s }
-    ensures { Walks watched.now marks options want base f.now s set.old result set.new }
+) -> Result<Walked, Refusal>
+    requires { (0 < length f.now) × (length f.now ≤ 2 ^ 63) × (base ≤ 240) × (marked watched.now 0 ≡ true) × (marked watched.now 255 ≡ true) × Few 1000000 (ending_of (Ok s)) }
+    ensures { Walks watched.now MARKED options want base f.now (ending_of (Ok s)) set.old (ending_of result) set.new }
 {
     let mut k = s.kept;
     let mut count = s.count;
     let mut pads: usize = 0;
     let mut i: usize = 0;
     let end = f.len() - 1;
+    // From one watched option to the next: how far that is, is read from the bytes.
     loop {
-        let p = pass(watched, marks, set, f, end, i);
+        let p = pass::<MARKED>(watched, set, f, end, i);
         i = p.at;
-        count = count + p.count;
+        count += p.count;
+        let met = Walked {
+            kept: k,
+            used: s.used + (i - pads),
+            count,
+        };
         if !p.watched {
-            return last(f, i, base, s.used + (i - pads), count, k);
+            return last(f, i, base, met);
         }
-        let c = f[i];
-        if c == 0 {
-            let j = after_pads(f, i + 1);
-            pads = pads + (j - i);
-            i = j;
-        } else {
-            if c == 255 {
-                return ended(0, 0, s.used + (i - pads), count, k);
+        match f[i] {
+            255 => return Ok(met),
+            0 => {
+                let j = after_pads(f, i + 1);
+                pads += j - i;
+                i = j;
             }
-            let j = i + 2;
-            let e = j + num::wide(f[i + 1]);
-            if f.len() < e {
-                return stopped(2, base + i);
+            c => {
+                let j = i + 2;
+                let e = j + usize::from(f[i + 1]);
+                if f.len() < e {
+                    return Err(Rule::OptionTruncated.at(base + i));
+                }
+                if let Err(rule) = over_stop(options, k.over, c, &f[j..e]) {
+                    return Err(rule.at(base + i));
+                }
+                k = kept_after(want, k, c, base, i, &f[j..e]);
+                count += 1;
+                i = e;
             }
-            let t = over_stop(options, k.over, c, &f[j..e]);
-            if t != 0 {
-                return stopped(t, base + i);
-            }
-            k = kept_after(want, k, c, base, i, &f[j..e]);
-            count = count + 1;
-            i = e;
         }
     }
 }
 
-// The number of the refusal of a message's length or cookie, or 0.
-pub fn unfit(m: &[u8]) -> u32
-    ensures { result ≡ unfit_of m.now }
+// Judges a message's length and cookie. The place of a refusal is the message's length, or the cookie's.
+pub fn fit(m: &[u8]) -> Result<(), Refusal>
+    ensures number { number_in result ≡ unfit_of m.now }
+    ensures place { IfErr result (λ r. r.place ≡ cond (eqb (unfit_of m.now) 3) 236 (length m.now)) }
 {
     if m.len() < 240 {
-        return 1;
+        return Err(Rule::MessageTooShort.at(m.len()));
     }
     if 1472 < m.len() {
-        return 2;
+        return Err(Rule::MessageTooLong.at(m.len()));
     }
     if !cookie_ok(m) {
-        return 3;
+        return Err(Rule::BadCookie.at(236));
     }
-    0
+    Ok(())
 }
 
-// Its place: the message's length, or the cookie's.
-pub fn unfit_place(m: &[u8], number: u32) -> usize
-    ensures { result ≡ cond (eqb number 3) 236 (length m.now) }
+// The place of a field's first byte, where options begins at first.
+fn base_from(first: usize, field: Field) -> usize
+    ensures { result ≡ start_from first (field_of field) }
 {
-    if number == 3 {
-        return 236;
+    match field {
+        Field::Options => first,
+        _ => base(field),
     }
-    m.len()
 }
 
-// The field that is read after another, by the value of option 52: 0 options, 1 file, 2 sname, 3 none.
-fn after_file(over: u32) -> usize
-    ensures { result ≡ after_file_value over }
+// The place after its last byte, in a message of len bytes.
+fn end_from(len: usize, field: Field) -> usize
+    ensures { result ≡ end_place len (field_of field) }
 {
-    if sname_on(over) { 2 } else { 3 }
-}
-
-fn after_options(over: u32) -> usize
-    ensures { result ≡ after_options_value over }
-{
-    if file_on(over) {
-        return 1;
+    match field {
+        Field::Options => len,
+        Field::File => 236,
+        Field::Sname => 108,
     }
-    after_file(over)
-}
-
-fn next_field(turn: usize, over: u32) -> usize
-    ensures { result ≡ next_field_value turn over }
-{
-    if over == 0 {
-        return 3;
-    }
-    if turn == 0 {
-        return after_options(over);
-    }
-    if turn == 1 {
-        return after_file(over);
-    }
-    3
 }
 
 // Walks the fields one after another: the one that begins at first and goes on to the end, which is options, and file and sname where option 52 makes them
-// active. Where 52 is not watched, as in bytes that are no message's, it makes none active. The walk is called at one place, so that it is compiled into
-// this function.
-fn fields(
+// active. Where 52 is not watched, as in bytes that are no message's, it makes none active.
+#[inline(always)]
+fn fields<const MARKED: bool>(
     watched: &[u64; 4],
-    marks: bool,
     set: &mut [u64; 4],
     want: u8,
     first: usize,
     m: &[u8],
-) -> Walked
+) -> Result<Walked, Refusal>
     requires { (first < length m.now) × (length m.now ≤ 2 ^ 63) × (marked watched.now 0 ≡ true) × (marked watched.now 255 ≡ true) × Laid watched.now first m.now }
-    ensures { Gives watched.now marks want first m.now set.old result set.new }
+    ensures { Gives watched.now MARKED want first m.now set.old (ending_of result) set.new }
 {
-    let mut s = stopped(0, 0);
-    let mut turn: usize = 0;
-    let mut from: usize = first;
-    let mut to: usize = m.len();
-    loop {
-        s = walk(watched, marks, set, turn == 0, want, from, &m[from..to], s);
-        if s.end != 0 {
-            return s;
-        }
-        turn = next_field(turn, s.kept.over);
-        if turn == 3 {
-            return s;
-        }
-        if turn == 1 {
-            from = 108;
-            to = 236;
-        } else {
-            from = 44;
-            to = 108;
+    let mut s = NOTHING;
+    for field in [Field::Options, Field::File, Field::Sname] {
+        if active(s.kept.over, field) {
+            let from = base_from(first, field);
+            let f = &m[from..end_from(m.len(), field)];
+            s = walk::<MARKED>(watched, set, field == Field::Options, want, from, f, s)?;
         }
     }
+    Ok(s)
 }
 
-// What a walk over a message tells: where the data of the first piece of the wanted code start (0: none), where the code byte of the last stands, and the bytes
-// of all its pieces; the value of option 52 (0: none); number and place of a refusal (0: none). Where codes are marked: the bytes that all options take in
-// their fields, and how many options there are; else 0.
+// What a walk over an accepted message tells: where the data of the first piece of the wanted code start (0: none), where the code byte of the last stands, and the
+// bytes of all its pieces; the value of option 52 (0: none). Where codes are marked: the bytes that all options take in their fields, and how many options there
+// are; else 0.
 #[derive(Clone, Copy)]
 pub struct Scanned {
     pub start: usize,
@@ -531,71 +445,22 @@ pub struct Scanned {
     pub whole: usize,
     pub used: usize,
     pub count: usize,
-    pub place: usize,
     pub over: u32,
-    pub number: u32,
-}
-
-// A refusal: nothing is told of what was met before it.
-fn refused(number: u32, place: usize) -> Scanned
-    ensures { result ≡ refused_at number place }
-{
-    Scanned {
-        start: 0,
-        last: 0,
-        whole: 0,
-        used: 0,
-        count: 0,
-        place,
-        over: 0,
-        number,
-    }
-}
-
-// The number of the refusal that the end of a walk is.
-pub fn number_of(end: u32) -> u32
-    ensures { result ≡ number_of end }
-{
-    if end == 1 {
-        return 5;
-    }
-    if end == 2 {
-        return 4;
-    }
-    if end == 3 {
-        return 6;
-    }
-    7
 }
 
 // What is counted is told only where options are marked: so a walk that marks none does not count.
-fn told(marks: bool, s: Walked) -> Scanned
-    ensures { result ≡ scanned_of marks s }
+fn told<const MARKED: bool>(s: Walked) -> Scanned
+    ensures { told_of result ≡ scanned_of MARKED (ending_of (Ok s)) }
 {
-    if s.end != 0 {
-        return refused(number_of(s.end), s.place);
-    }
     let k = s.kept;
     Scanned {
         start: k.start,
         last: k.last,
         whole: k.whole,
-        used: tally(marks, s.used),
-        count: tally(marks, s.count),
-        place: 0,
+        used: tally::<MARKED>(s.used),
+        count: tally::<MARKED>(s.count),
         over: k.over,
-        number: 0,
     }
-}
-
-// Length and cookie are judged of a message alone.
-fn unfit_message(bare: bool, m: &[u8]) -> u32
-    ensures { result ≡ cond bare 0 (unfit_of m.now) }
-{
-    if bare {
-        return 0;
-    }
-    unfit(m)
 }
 
 // Where the first field begins.
@@ -605,80 +470,89 @@ fn first_place(bare: bool) -> usize
     if bare { 0 } else { 240 }
 }
 
-// Walks the message once. low: the watched codes below 64, pads and option 52. Where that is pads alone, m is bytes that hold items as a field holds options,
-// but are no message's (bare): 52 is a code like any other there, and no END is needed. marks: every code is put into the set.
-fn scan(m: &[u8], want: u8, marks: bool, low: u64, set: &mut [u64; 4]) -> Scanned
-    requires { (low ≡ low_watched (eqb low 1)) × Bare (eqb low 1) marks want m.now }
-    ensures { Tells (eqb low 1) marks want m.now set.old result set.new }
+// The words of the watched codes: pads, option 52 in a message, and END.
+const PADS: u64 = 1;
+
+const PADS_AND_52: u64 = PADS | 1 << 52;
+
+const END: u64 = 1 << 63;
+
+// The watched codes below 64.
+fn low_codes(bare: bool) -> u64
+    ensures { result ≡ low_watched bare }
 {
-    let bare = low == 1;
-    let number = unfit_message(bare, m);
-    if number != 0 {
-        return refused(number, unfit_place(m, number));
+    if bare { PADS } else { PADS_AND_52 }
+}
+
+// Walks the message once. bare: m is bytes that hold items as a field holds options, but are no message's: 52 is a code like any other there, and no END is needed.
+// Length and cookie are judged of a message alone. MARKED: every code is put into the set.
+#[inline(always)]
+fn scan<const MARKED: bool>(
+    m: &[u8],
+    want: u8,
+    bare: bool,
+    set: &mut [u64; 4],
+) -> Result<Scanned, Refusal>
+    requires { Bare bare MARKED want m.now }
+    ensures { Tells bare MARKED want m.now set.old (told_by result) set.new }
+{
+    if !bare {
+        fit(m)?;
     }
     // A walk looks at a field of one byte or more.
     let first = first_place(bare);
     if m.len() == first {
-        return refused(5, first);
+        return Err(Rule::NoEnd.at(first));
     }
     // These, END and the code that is wanted.
-    let mut watched = [low, 0, 0, 9223372036854775808];
-    let k = codeset::word(want);
-    watched[k] = watched[k] | (1u64 << (want % 64));
-    told(marks, fields(&watched, marks, set, want, first, m))
+    let mut watched = [low_codes(bare), 0, 0, END];
+    codeset::insert(&mut watched, want);
+    let s = fields::<MARKED>(&watched, set, want, first, m)?;
+    Ok(told::<MARKED>(s))
 }
 
 // Looks for the pieces of a code: the message is walked once.
-pub fn find(m: &[u8], want: u8) -> Scanned
-    ensures { result ≡ scan_of want m.now }
+pub fn find(m: &[u8], want: u8) -> Result<Scanned, Refusal>
+    ensures { told_by result ≡ scan_of want m.now }
 {
     let mut set = [0; 4];
-    scan(m, want, false, 4503599627370497, &mut set)
+    scan::<false>(m, want, false, &mut set)
 }
 
 // The codes of a message, and the size and number of its options: the message is walked once. The lent set becomes that of its codes; a refusal leaves it
 // empty.
-pub fn codes(m: &[u8], set: &mut [u64; 4]) -> Scanned
-    ensures { Surveys m.now result set.new }
+pub fn codes(m: &[u8], set: &mut [u64; 4]) -> Result<Scanned, Refusal>
+    ensures { Surveys m.now (told_by result) set.new }
 {
     *set = [0; 4];
-    let s = scan(m, 52, true, 4503599627370497, set);
-    if s.number != 0 {
-        *set = [0; 4];
-        return s;
+    match scan::<true>(m, 52, false, set) {
+        Ok(s) => {
+            // Option 52 is watched, and so not marked.
+            if s.start != 0 {
+                codeset::mark(set, 52);
+            }
+            Ok(s)
+        }
+        Err(refusal) => {
+            *set = [0; 4];
+            Err(refusal)
+        }
     }
-    // Option 52 is watched, and so not marked.
-    if s.start != 0 {
-        codeset::mark(set, 52);
-    }
-    s
 }
 
-// Of bytes that hold items as a field holds options: whether one runs past them, and its offset; else the bytes that all take as records.
-#[derive(Clone, Copy)]
-pub struct Measured {
-    pub past: bool,
-    pub place: usize,
-    pub size: usize,
-}
-
-// Judges the items of vendor information (document 02, request 05), and measures them, in one walk: the one that judges the fields of a message.
-pub fn items(f: &[u8]) -> Measured
-    ensures { result ≡ measure_of (items_in (parse 0 0 f.now)) }
+// Judges bytes that hold items as a field holds options, vendor information (document 02, request 05), and measures what all take as records, in one walk: the one that
+// judges the fields of a message. One that runs past them is refused, at its offset.
+pub fn items(f: &[u8]) -> Result<usize, Refusal>
+    ensures size { measured_by result ≡ measure_of (items_in (parse 0 0 f.now)) }
+    ensures rule { IfErr result (λ r. r.rule ≡ ItemTruncated) }
 {
     if f.len() == 0 {
-        return Measured {
-            past: false,
-            place: 0,
-            size: 0,
-        };
+        return Ok(0);
     }
     let mut set = [0; 4];
-    let s = scan(f, 0, true, 1, &mut set);
-    Measured {
-        past: s.number != 0,
-        place: s.place,
-        size: s.used + s.count,
+    match scan::<true>(f, 0, true, &mut set) {
+        Ok(s) => Ok(s.used + s.count),
+        Err(refusal) => Err(Rule::ItemTruncated.at(refusal.place)),
     }
 }
 

@@ -1,5 +1,5 @@
 -- The answer case by case; no refusal has number 0. Assumes nothing.
-use mathlib.Core.Path.{◌≡◌, refl, sym, ◌∙◌}
+use mathlib.Core.Path.{◌≡◌, refl, sym, ap, ap₂, ◌∙◌}
 use mathlib.Core.List.{List, [], ◌∷◌}
 use mathlib.Core.Bool.{Bool, true, false, cond}
 use Prim.Native.Nat.{ℕ, ◌-◌}
@@ -14,10 +14,30 @@ use Rattle.options.specs.Writing.{split_all, Wrote, wrote, declined, plan_fits, 
 use Rattle.theorems.proofs.View.{clash}
 use Rattle.sheet.specs.Judge.{judge_of}
 use Rattle.sheet.proofs.Verdicts.{verdict_settles}
-use Rattle.plan.specs.Answer.{ChoiceByCase, RefusalsAreNumbered}
+use Rattle.std.specs.Prelude.{Result, Ok, Err}
+use Rattle.refusal.specs.declared.Refusal.{Refusal}
+use Rattle.refusal.specs.Refused.{number_of}
+use Rattle.refusal.proofs.Rules.{same_refusal}
+use Rattle.plan.specs.declared.Choice as code
+use Rattle.plan.specs.Answer.{chosen_by, ChoiceByCase, ChosenByCase, RefusalsAreNumbered}
+
+same : (c d : Result code.Choice Refusal) → chosen_by c ≡ chosen_by d → c ≡ d
+same (Ok c) (Ok d) e =
+    let p : c.plan ≡ d.plan = cc in
+    let n : c.single ≡ d.single = cc in
+    ap₂ (λ (x y : ℕ). Ok (record { plan = x; single = y })) p n
+same (Ok c) (Err s) e = clash (cc)
+same (Err r) (Ok d) e = clash (cc)
+same (Err r) (Err s) e =
+    let n : number_of r.rule ≡ number_of s.rule = cc in
+    let p : r.place ≡ s.place = cc in
+    ap Err (same_refusal r s n p)
 
 pub choice_by_case : ChoiceByCase
 choice_by_case single plan n p w = (refl, refl)
+
+pub chosen_by_case : ChosenByCase
+chosen_by_case = (λ c. refl, λ r. refl, same)
 
 -- what declines does so by a number other than 0
 abbrev Numbered : Wrote → Type 0

@@ -42,6 +42,10 @@ fits_0 n rs = go (leb 1 n) refl
     go true q = all_fit n rs (leb-true 1 n q)
     go false q = sym (le-ltb (sizes rs) n (omega (arith, leb-false 1 n q)))
 
+-- the options take too much for plan 0
+pub not_0 : (n : ℕ) (rs : List Rec) → n ≤ sizes rs → plan_fits 0 n rs ≡ false
+not_0 n rs l = fits_0 n rs ∙ le-ltb (sizes rs) n l
+
 module _ (n : ℕ) (rs : List Rec) (l : 4 ≤ n) where
   -- what options leaves over beside option 52, and file after it
   abbrev pub after_options_value : List Rec

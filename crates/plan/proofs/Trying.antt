@@ -11,13 +11,24 @@ use Rattle.options.specs.Message.{Rec}
 use Rattle.options.specs.Kinds.{kinds}
 use Rattle.options.specs.Writing.{wrote, pieces_left, plan_fits, written, plans, try_plans, sheet, in_plan_order, after_sheet, writer}
 use Rattle.writing_theorems.proofs.PieceSteps.{pieces_at_record}
+use Rattle.sheet.specs.Places.{unless_0}
 use Rattle.sheet.specs.Judge.{judge_of}
 use Rattle.sheet.proofs.Verdicts.{Accepted, tries, refused}
-use Rattle.plan.specs.Answer.{answer_of, single_of, Answers}
+use Rattle.plan.specs.Answer.{Choice, Plan, Refused, answer_of, single_of, Answers}
+use Rattle.std.specs.Prelude.{Some, None}
+use Rattle.refusal.specs.declared.Refusal.{Refusal}
+use Rattle.refusal.specs.Refused.{number_of}
 use Rattle.plan.specs.Steps.{sizes, overloading, first_fit, Tries}
-use Rattle.plan.specs.declared.Choice.{Choice}
-use Rattle.plan.specs.declared.Choice.TheVariants.{Plan, Refused}
 use Rattle.plan.proofs.Sizes.{after_options_value, after_file_value, fits_1, fits_2, fits_3}
+
+-- a refusal by a rule at a place
+pub refused_as : {r x : Refusal} → r ≡ x → Refused (number_of r.rule) r.place ≡ Refused (number_of x.rule) x.place
+refused_as e = ap (λ (y : Refusal). Refused (number_of y.rule) y.place) e
+
+-- a plan, where 0 stands for none
+pub plan_some : (b : Bool) (p : ℕ) → (p ≡ 0 → ⊥) → cond b (Some p) None ≡ unless_0 (cond b p 0)
+plan_some true p h = sym (rw (ne_eqb p 0 h) refl)
+plan_some false p h = refl
 
 no_room : (p n : ℕ) (rs : List Rec) → n < cond (eqb p 0) 1 4 → false ≡ plan_fits p n rs
 unfolding plan_fits

@@ -4,8 +4,7 @@ use Rattle.options.specs.Message.{Rec}
 use Rattle.options.specs.SheetWalk.{records_left}
 use Rattle.options.specs.Writing.{option_bytes, fits, plan_fits, plans, try_plans, pieces_left, Between}
 use Rattle.sheet.specs.Judge.{single_to}
-use Rattle.plan.specs.Answer.{answer_of}
-use Rattle.plan.specs.declared.Choice.{Choice}
+use Rattle.plan.specs.Answer.{Choice, answer_of}
 use Rattle.plan.specs.declared.Rest.{Rest}
 
 -- the bytes that the options of the pieces take

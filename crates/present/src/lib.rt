@@ -3,36 +3,32 @@
 
 ghost use Rattle.std.specs.Prelude.{◌≡◌};
 ghost use Rattle.options.specs.Answers.{present};
-ghost use Rattle.present.specs.Marked.{codes_of, CodesByCase, RefusedByANumber};
+ghost use Rattle.present.specs.Marked.{codes_of, shown_by, CodesByCase, ShownByCase, RefusedByANumber};
 
-// The set of the codes present, 52 included, how many they are, the lowest of them (0 if none), and number and place of a refusal: then the others are 0.
-#[derive(Clone, Copy)]
+use refusal::Refusal;
+
+// The set of the codes present, 52 included, how many they are, and the lowest of them (0 if none).
+#[derive(Clone, Copy, Debug, PartialEq, Eq)]
 pub struct Codes {
     pub words: [u64; 4],
     pub count: u32,
     pub lowest: u32,
-    pub number: u32,
-    pub place: usize,
 }
 
 // Each case of the answer has the numbers that the rules give it, and none of a refusal is 0.
 pub fn proved()
-    ensures { CodesByCase × RefusedByANumber }
+    ensures { CodesByCase × ShownByCase × RefusedByANumber }
 {}
 
 // One walk over the message; the codes are counted per word, and the lowest is the first bit set.
-pub fn present(m: &[u8]) -> Codes
-    ensures { result ≡ codes_of (present m.now) }
+pub fn present(m: &[u8]) -> Result<Codes, Refusal>
+    ensures { shown_by result ≡ codes_of (present m.now) }
 {
     let mut words = [0; 4];
-    let w = message::codes(m, &mut words);
-    let count = codeset::count(words);
-    let lowest = codeset::lowest(words);
-    Codes {
+    message::codes(m, &mut words)?;
+    Ok(Codes {
         words,
-        count,
-        lowest,
-        number: w.number,
-        place: w.place,
-    }
+        count: codeset::count(words),
+        lowest: codeset::lowest(words),
+    })
 }

@@ -1,15 +1,15 @@
 -- The records by a set of codes are those of the definition, and how long they are. Assumes nothing.
-use mathlib.Core.Path.{◌≡◌, refl, sym, ap, ap₂, ◌∙◌, subst}
+use mathlib.Core.Path.{◌≡◌, refl, sym, ap, ap₂, ◌∙◌}
 use mathlib.Core.Bool.{Bool, true, false, cond}
 use mathlib.Core.List.{List, [], ◌∷◌, ◌++◌, append-nil}
 use mathlib.Core.Logic.{inl, inr}
-use Prim.Native.Nat.{ℕ, zero, suc, ◌+◌, ◌*◌, ◌/◌, ◌%◌, ◌≤◌, ◌<◌}
+use Prim.Native.Nat.{ℕ, suc, ◌+◌, ◌*◌, ◌/◌, ◌≤◌, ◌<◌}
 use native.Mathlib.Omega.{arith}
 use native.Mathlib.Decide.{ℕ_discrete}
 use lib.Dec.{eqb}
 use lib.ListN.{length, length-append, length-set}
-use borrow.Author.Tests.{eq-eqb, ne_eqb, eqb-true, eqb-false}
-use Rattle.options.specs.Message.{Rec, Opt, In, end_to_end}
+use borrow.Author.Tests.{eq-eqb, ne_eqb}
+use Rattle.options.specs.Message.{Rec, Opt, end_to_end}
 use Rattle.options.specs.Reading.{either, among, items, pieces}
 use Rattle.options.specs.Answers.{record_bytes, but52, further_data, joined_records, sheet_records, words_of}
 use Rattle.options.specs.CodeSet.{marked, with_mark, no_codes, count_of}

@@ -2,14 +2,13 @@
 use mathlib.Core.Path.{◌≡◌, refl, sym, ap, ap₂, ◌∙◌}
 use mathlib.Core.Bool.{Bool, true, false, cond}
 use mathlib.Core.List.{List, [], ◌∷◌, ◌++◌, append_assoc, append-nil}
-use mathlib.Core.Logic.{inl}
 use Prim.Native.Nat.{ℕ, suc, ◌+◌, ◌-◌, ◌/◌, ◌%◌, ◌≤◌, ◌<◌}
 use native.Mathlib.Omega.{arith}
 use native.Mathlib.Decide.{ℕ_discrete}
 use lib.Dec.{eqb}
 use lib.ListN.{length, take, drop, get_or, set, length-append, length-drop, length-set, take-append-drop}
 use lib.Seq.{length-take-le, take_at, drop_at, set-get_or, get_or-set_same, get_or-set_other}
-use borrow.Author.Tests.{eq-eqb, ne_eqb, eqb-true, eqb-false}
+use borrow.Author.Tests.{eq-eqb, ne_eqb}
 use Rattle.options.specs.Message.{Opt, end_to_end}
 use Rattle.options.specs.Reading.{pieces}
 use Rattle.options.specs.Answers.{record_bytes}
@@ -19,7 +18,7 @@ use Rattle.message.specs.Active.{active_options}
 use Rattle.records.specs.FieldRecords.{ActiveEnds, short_record}
 use Rattle.records.specs.Places.{Stands, left_at, joined_at}
 use Rattle.records.specs.JoinedRecords.{long_record, first_record, joined_record, one_more_value, counted, Tells, sheet_by}
-use Rattle.records.specs.Places.{Goes}
+use Rattle.records.specs.Places.{Goes, MeetsAt}
 use Rattle.records.proofs.Places.{stands_first, left_first}
 
 -- ---- the head of a record, before data that were laid first
@@ -109,9 +108,6 @@ module _ {v : ℕ} {m old now : List ℕ} {i : ℕ} (y : Counting v m old now i)
   unfolding counted
   counting_ends e = rw e at y.same
 
-  pub counting_goes : {j : ℕ} → Goes v m i j → Counting v m old now j
-  counting_goes g = record { stands = g.stands; long = y.long; same = ap (counted now) (sym g.same) ∙ y.same }
-
   pub counting_on : {j : ℕ} (o : Opt) → Stands v m j → left_at v m i ≡ o ∷ left_at v m j → Counting v m old (set now o.item.tag (one_more_value (get_or now o.item.tag 0))) j
   unfolding counted
   counting_on o s e = record { stands = s; long = length-set now o.item.tag _ ∙ y.long; same = rw e at y.same }
@@ -133,9 +129,6 @@ joined_more v m i j c o e = rw e (go (eqb c o.item.tag))
 pub record Gathering (v : ℕ) (m old : List ℕ) (at : ℕ) (all now : List ℕ) (o i c : ℕ) : Type 0 where
   pub stands : Stands v m i
   pub still : Still old at all now o (joined_at v m i c)
-
-pub gathering_goes : {v : ℕ} {m old : List ℕ} {at : ℕ} {all now : List ℕ} {o i c j : ℕ} → Gathering v m old at all now o i c → Goes v m i j → Gathering v m old at all now o j c
-gathering_goes y g = record { stands = g.stands; still = rw g.same at y.still }
 
 -- ---- the records
 
@@ -250,3 +243,17 @@ module _ {v : ℕ} {m old all t now : List ℕ} {o i : ℕ} (y : Putting v m old
     -- a code that stands once
     pub putting_once : c < 256 → get_or t c 0 ≡ 1 → length x.item.body < 256 → here ≡ short_record c x.item.body
     putting_once l q s = rw e (once_record t x (left_at v m j) (rw e at y.tells) l q s)
+
+  -- it is met where it stands
+  pub once_met : get_or t (get_or m i 0) 0 ≡ 1 → MeetsAt v m i i
+  once_met q =
+      record {
+        stands = y.stands;
+        same = refl;
+        no_later = omega arith;
+        no_pad = λ z. y.tells.no_pad (ap (λ (k : ℕ). get_or t k 0) (sym z) ∙ q);
+        no_end = λ z. y.tells.no_end (ap (λ (k : ℕ). get_or t k 0) (sym z) ∙ q);
+      }
+
+  pub other_met : (get_or m i 0 ≡ 0 → ⊥) → (get_or m i 0 ≡ 255 → ⊥) → MeetsAt v m i i
+  other_met z e = record { stands = y.stands; same = refl; no_later = omega arith; no_pad = z; no_end = e }

@@ -1,20 +1,21 @@
 -- The walk over an accepted message by its places, an item at a time. Assumes nothing.
-use mathlib.Core.Path.{◌≡◌, refl, sym, ap, ap₂, ◌∙◌}
+use mathlib.Core.Path.{◌≡◌, refl, sym, ap, ◌∙◌}
 use mathlib.Core.Bool.{Bool, true, false, cond}
 use mathlib.Core.List.{List, [], ◌∷◌, ◌++◌, append-nil}
 use Prim.Native.Nat.{ℕ, ◌+◌, ◌-◌, ◌≤◌, ◌<◌}
 use native.Mathlib.Omega.{arith}
 use lib.ListN.{length, get_or, take, drop, length-take, length-drop}
 use lib.Seq.{get_or-take, get_or-drop}
-use borrow.Author.Tests.{le-leb, lt-leb}
+use lib.Dec.{eqb}
+use borrow.Author.Tests.{le-leb, lt-leb, eqb-true, eqb-false}
+use Rattle.std.specs.Prelude.{Option, None, Some}
 use Rattle.options.specs.Message.{Field, options, file, sname, start, bytes, Opt, opt}
 use Rattle.options.specs.Reading.{Parse, parse, file_in, sname_in}
 use Rattle.theorems.proofs.Lengths.{field_within, field_part}
-use Rattle.wire.specs.Walk.{item_at}
 use Rattle.wire.proofs.Laws.{rest, rest_pad, rest_end, body_length}
 use Rattle.message.specs.Active.{active_in, options_in, field_from, later_fields, options_from, active_options}
 use Rattle.records.specs.FieldRecords.{has_end, field_ends, ActiveEnds}
-use Rattle.records.specs.Places.{field_at, sname_place_value, next_place_value, Stands, left_at, to_go, bytes_left, Goes}
+use Rattle.records.specs.Places.{field_at, next_place_value, some_place, Stands, MeetsAt, left_at, to_go, bytes_left, Goes}
 use Rattle.records.proofs.Within.{inside, pad_ends, option_within, option_found, option_ends}
 
 -- ---- a place, and the offset in its field
@@ -247,3 +248,72 @@ module _ (v : ℕ) (m : List ℕ) where
             less =
                 omega (arith, ap (bytes_left m) p, go_at g 0 h, ap (to_go m g) p', w.less x in_field, ap (bytes_left m) y.place, go_at fd x in_field);
           }
+
+-- a place where there may be one
+pub no_place : (p : ℕ) → ◌≡◌ {A = Option ℕ} None (some_place p) → p ≡ 0
+no_place p = go (eqb p 0) refl
+  where
+    go : (b : Bool) → eqb p 0 ≡ b → ◌≡◌ {A = Option ℕ} None (cond b None (Some p)) → p ≡ 0
+    go true q e = eqb-true p 0 q
+    go false q e = absurd (cc)
+
+pub a_place : (p n : ℕ) → ◌≡◌ {A = Option ℕ} (Some n) (some_place p) → (n ≡ p) × (n ≡ 0 → ⊥)
+a_place p n = go (eqb p 0) refl
+  where
+    go : (b : Bool) → eqb p 0 ≡ b → ◌≡◌ {A = Option ℕ} (Some n) (cond b None (Some p)) → (n ≡ p) × (n ≡ 0 → ⊥)
+    go true q e = absurd (cc)
+    go false q e = let w : n ≡ p = cc in (w, λ z. eqb-false p 0 q (sym w ∙ z))
+
+-- where reading goes on behind an END
+module _ {v : ℕ} {m : List ℕ} {i : ℕ} (y : Stands v m i) where
+  pub field_goes : ActiveEnds v m → get_or m i 0 ≡ 255 → (n : ℕ) → ◌≡◌ {A = Option ℕ} (Some n) (some_place (next_place_value v (field_at i))) → Goes v m i n
+  field_goes a e n h = let w = a_place (next_place_value v (field_at i)) n h in end_next v m y e n w.0 a w.1
+
+  pub field_none : get_or m i 0 ≡ 255 → ◌≡◌ {A = Option ℕ} None (some_place (next_place_value v (field_at i))) → left_at v m i ≡ []
+  field_none e h = end_none v m y e (next_place_value v (field_at i)) refl (no_place (next_place_value v (field_at i)) h)
+
+-- ---- the way to the next option
+
+pub record Nearing (v : ℕ) (m : List ℕ) (from i : ℕ) : Type 0 where
+  pub stands : Stands v m i
+  pub same : left_at v m from ≡ left_at v m i
+  pub no_later : bytes_left m i ≤ bytes_left m from
+
+module _ {v : ℕ} {m : List ℕ} {from : ℕ} where
+  pub nearing_begins : Stands v m from → Nearing v m from from
+  nearing_begins s = record { stands = s; same = refl; no_later = omega arith }
+
+  module _ {i : ℕ} (y : Nearing v m from i) where
+    pub nearing_on : {j : ℕ} → Goes v m i j → Nearing v m from j
+    nearing_on g = record { stands = g.stands; same = y.same ∙ g.same; no_later = omega (arith, y.no_later, g.less) }
+
+    pub meets_here : (get_or m i 0 ≡ 0 → ⊥) → (get_or m i 0 ≡ 255 → ⊥) → MeetsAt v m from i
+    meets_here z e = record { stands = y.stands; same = y.same; no_later = y.no_later; no_pad = z; no_end = e }
+
+    module _ (a : ActiveEnds v m) (e : get_or m i 0 ≡ 255) where
+      pub nearing_field : (n : ℕ) → ◌≡◌ {A = Option ℕ} (Some n) (some_place (next_place_value v (field_at i))) → Goes v m i n
+      nearing_field n h = field_goes y.stands a e n h
+
+      pub nearing_ends : ◌≡◌ {A = Option ℕ} None (some_place (next_place_value v (field_at i))) → left_at v m from ≡ []
+      nearing_ends h = y.same ∙ field_none y.stands e h
+
+-- ---- an option that is met
+
+module _ {v : ℕ} {m : List ℕ} {i j : ℕ} (k : MeetsAt v m i j) (n p : ℕ) (q : n ≡ get_or m (j + 1) 0) (w : p ≡ j + 2 + n) where
+  pub met_within : j + 2 + n ≤ length m
+  met_within = option_in_lem v m k.stands k.no_pad k.no_end n p q w
+
+  abbrev pub met : Opt
+  met = option_at v m k.stands k.no_pad k.no_end n p q w
+
+  pub met_stands : Stands v m p
+  met_stands = option_stands v m k.stands k.no_pad k.no_end n p q w
+
+  pub met_left : left_at v m i ≡ met ∷ left_at v m p
+  met_left = k.same ∙ option_left v m k.stands k.no_pad k.no_end n p q w
+
+  pub met_less : bytes_left m p < bytes_left m i
+  met_less = omega (arith, k.no_later, option_less v m k.stands k.no_pad k.no_end n p q w)
+
+  pub met_size : length (take n (drop (j + 2) m)) ≡ n
+  met_size = option_size v m k.stands k.no_pad k.no_end n p q w

@@ -1,9 +1,9 @@
 -- The records of options, by what is kept of their codes: no public contract rests on this. Assumes nothing.
-use Rattle.std.specs.Prelude.{◌≡◌, Bool, cond, List, [], ◌∷◌, ℕ, zero, suc, ◌+◌, ◌*◌, ◌/◌, ◌%◌, ◌≤◌, ◌<◌, eqb, length, get_or, set}
+use Rattle.std.specs.Prelude.{◌≡◌, cond, List, [], ◌∷◌, ℕ, suc, ◌+◌, ◌*◌, ◌/◌, ◌%◌, ◌≤◌, ◌<◌, eqb, length, get_or, set}
 use Rattle.options.specs.Message.{Rec, Opt, In, end_to_end}
 use Rattle.options.specs.Reading.{pieces}
 use Rattle.options.specs.CodeSet.{marked, with_mark, no_codes}
-use Rattle.message.specs.declared.Scanned.{Scanned}
+use Rattle.message.specs.Scan.{Scan}
 
 -- every code is a byte
 abbrev pub Small : List Opt → Type 0
@@ -63,9 +63,9 @@ abbrev pub head52 : ℕ → ℕ
 head52 s = cond (eqb s 0) 0 3
 
 -- what the records take with what option 52 would take, and two bytes for each option: `codes` codes, by what is told of the message
-abbrev pub needed : Scanned → ℕ → ℕ
+abbrev pub needed : Scan → ℕ → ℕ
 needed t codes = t.used + codes * 3
 
 -- a buffer of n bytes, with the same
-abbrev pub held : ℕ → Scanned → ℕ
+abbrev pub held : ℕ → Scan → ℕ
 held n t = n + t.count * 2 + t.whole + head52 t.start

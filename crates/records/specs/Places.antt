@@ -1,5 +1,5 @@
 -- The options of an accepted message from a place on, as the loops over it go: no public contract rests on this. Assumes nothing.
-use Rattle.std.specs.Prelude.{◌≡◌, true, cond, List, ℕ, ◌+◌, ◌-◌, ◌<◌, leb, length, drop}
+use Rattle.std.specs.Prelude.{◌≡◌, true, cond, List, [], ℕ, ◌+◌, ◌-◌, ◌<◌, ◌≤◌, eqb, leb, length, drop, get_or, Option, Some, None}
 use Rattle.options.specs.Message.{Field, options, file, sname, start, bytes, Opt, end_to_end}
 use Rattle.options.specs.Reading.{parse, file_in, sname_in, pieces}
 use Rattle.message.specs.Active.{active_in, options_from}
@@ -17,6 +17,10 @@ abbrev pub next_place_value : ℕ → Field → ℕ
 next_place_value v options = cond (file_in v) 108 (sname_place_value v)
 next_place_value v file = sname_place_value v
 next_place_value v sname = 0
+
+-- such a place where there is one: none starts at 0
+abbrev pub some_place : ℕ → Option ℕ
+some_place p = cond (eqb p 0) None (Some p)
 
 -- the place i is in an active field, which has its END from there on
 pub record Stands (v : ℕ) (m : List ℕ) (i : ℕ) : Type 0 where
@@ -49,3 +53,16 @@ pub record Goes (v : ℕ) (m : List ℕ) (i j : ℕ) : Type 0 where
   pub stands : Stands v m j
   pub same : left_at v m i ≡ left_at v m j
   pub less : bytes_left m j < bytes_left m i
+
+-- the first option from the place i on stands at j
+pub record MeetsAt (v : ℕ) (m : List ℕ) (i j : ℕ) : Type 0 where
+  pub stands : Stands v m j
+  pub same : left_at v m i ≡ left_at v m j
+  pub no_later : bytes_left m j ≤ bytes_left m i
+  pub no_pad : get_or m j 0 ≡ 0 → ⊥
+  pub no_end : get_or m j 0 ≡ 255 → ⊥
+
+-- it is that at a place, or there is none
+abbrev pub Meets : ℕ → List ℕ → ℕ → Option ℕ → Type 0
+Meets v m i None = left_at v m i ≡ []
+Meets v m i (Some j) = MeetsAt v m i j

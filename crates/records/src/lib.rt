@@ -1,20 +1,20 @@
 // The records of a message (document 01, What is asked of a message): every option but 52 in reading order, written to a lent buffer.
 #![tactic(auto)]
 
-ghost use Rattle.std.specs.Prelude.{◌≡◌, true, cond, [], ◌+◌, ◌<◌, ◌≤◌, ◌^◌, ltb, length, set};
+ghost use Rattle.std.specs.Prelude.{◌≡◌, Ok, true, cond, [], ◌+◌, ◌<◌, ◌≤◌, ◌^◌, ltb, length, set};
 ghost use Rattle.options.specs.Answers as answers;
 ghost use Rattle.buffer.specs.Written.{laid, Written};
 ghost use Rattle.options.specs.Answers.{record_bytes};
 ghost use Rattle.options.specs.CodeSet.{count_of};
-ghost use Rattle.message.specs.Scan.{survey_of};
+ghost use Rattle.message.specs.Scan.{survey_of, told_of};
 ghost use Rattle.message.specs.Active.{active_options};
 ghost use Rattle.filled.specs.Fill.{Fills};
 ghost use Rattle.records.specs.FieldRecords.{short_record, option_record, field_ends, field_records, ActiveEnds, active_records};
-ghost use Rattle.records.specs.Places.{field_at, sname_place_value, next_place_value, Stands, joined_at};
-ghost use Rattle.records.specs.JoinedRecords.{Small, long_record, first_record, one_more_value, counted, Tells, sheet_by, sheet_from, only52, head52, needed, held};
+ghost use Rattle.records.specs.Places.{field_at, sname_place_value, next_place_value, some_place, Stands, Meets, joined_at};
+ghost use Rattle.records.specs.JoinedRecords.{Small, long_record, first_record, counted, Tells, sheet_by, sheet_from, only52, needed, held};
 
-use filled::Given;
 use message::Scanned;
+use refusal::{Refusal, Rule};
 
 // Lays one record over out from at on. Data of an option has fewer than 256 bytes, so the length's high byte is 0.
 // The part lent to `copy` is as long as body: so the compiler sees that the data fits, and drops its test.
@@ -50,6 +50,7 @@ fn put_field(f: &[u8], out: &mut [u8], at: usize) -> usize
 {
     let mut o = at;
     let mut i: usize = 0;
+    // No iterator: how far a step goes is read from the bytes.
     loop {
         let c = f[i];
         if c == 255 {
@@ -87,65 +88,62 @@ fn put_active(m: &[u8], v: u32, out: &mut [u8]) -> usize
     put_if(message::sname_on(v), &m[44..108], out, b)
 }
 
-// The place where sname starts, or 0 where it is inactive.
-fn sname_place(over: u32) -> usize
-    ensures { result ≡ sname_place_value over }
+// The place where sname starts, where it is active.
+fn sname_place(over: u32) -> Option<usize>
+    ensures { result ≡ some_place (sname_place_value over) }
 {
     if message::sname_on(over) {
-        return 44;
+        return Some(44);
     }
-    0
+    None
 }
 
-// Where reading goes on behind the END at a place: where the next active field starts, or 0 where there is none.
-pub fn next_place(over: u32, i: usize) -> usize
-    ensures { result ≡ next_place_value over (field_at i) }
+// Where reading goes on behind the END at a place: where the next active field starts, if there is one.
+pub fn next_place(over: u32, i: usize) -> Option<usize>
+    ensures { result ≡ some_place (next_place_value over (field_at i)) }
 {
     if i < 108 {
-        return 0;
+        return None;
     }
     if i < 240 {
         return sname_place(over);
     }
     if message::file_on(over) {
-        return 108;
+        return Some(108);
     }
     sname_place(over)
 }
 
-// How many pieces a code has, after one more: 2 stands for every number from 2 on.
-fn one_more(n: u8) -> u8
-    ensures { result ≡ one_more_value n }
+// The place of the first option from a place on, in the reading order, if one is left. As in the other walks over an accepted message, nothing is tested that
+// the walk which judged it has tested.
+fn option_from(m: &[u8], over: u32, from: usize) -> Option<usize>
+    requires { ActiveEnds over m.now × Stands over m.now from }
+    ensures { Meets over m.now from result }
 {
-    if n == 0 {
-        return 1;
+    let mut i = from;
+    loop {
+        let c = m[i];
+        if c == 255 {
+            i = next_place(over, i)?;
+        } else {
+            if c != 0 {
+                return Some(i);
+            }
+            i = i + 1;
+        }
     }
-    2
 }
 
-// Counts the pieces of each code, in a table with a byte for each. As in the other walks over an accepted message, nothing is tested that the walk which
-// judged it has tested.
+// Counts the pieces of each code, in a table with a byte for each: 2 stands for every number from 2 on.
 fn count_pieces(m: &[u8], over: u32, table: &mut [u8])
     requires { ActiveEnds over m.now × (length table.old ≡ 256) }
     ensures { table.new ≡ counted table.old (active_options over m.now) }
 {
-    let mut i: usize = 240;
-    loop {
-        let c = m[i];
-        if c == 255 {
-            i = next_place(over, i);
-            if i == 0 {
-                return;
-            }
-        } else {
-            if c == 0 {
-                i = i + 1;
-            } else {
-                let k = num::wide(c);
-                table[k] = one_more(table[k]);
-                i = i + 2 + num::wide(m[i + 1]);
-            }
-        }
+    let mut from: usize = 240;
+    while let Some(i) = option_from(m, over, from) {
+        let k = num::wide(m[i]);
+        table[k] = table[k].min(1) + 1;
+        from = i + 2 + num::wide(m[i + 1]);
     }
 }
 
@@ -168,25 +166,14 @@ fn join(m: &[u8], over: u32, from: usize, code: u8, out: &mut [u8], at: usize) -
     ensures { Written out.old at (joined_at over m.now from code) result out.new }
 {
     let mut o = at;
-    let mut i = from;
-    loop {
-        let c = m[i];
-        if c == 255 {
-            i = next_place(over, i);
-            if i == 0 {
-                return o;
-            }
-        } else {
-            if c == 0 {
-                i = i + 1;
-            } else {
-                let j = i + 2;
-                let e = j + num::wide(m[i + 1]);
-                o = put_piece(code == c, &m[j..e], out, o);
-                i = e;
-            }
-        }
+    let mut next = from;
+    while let Some(i) = option_from(m, over, next) {
+        let j = i + 2;
+        let e = j + num::wide(m[i + 1]);
+        o = put_piece(code == m[i], &m[j..e], out, o);
+        next = e;
     }
+    o
 }
 
 // Lays the record of a code whose first piece stands at a place: the data of all its pieces.
@@ -235,7 +222,7 @@ fn put_once(code: u8, body: &[u8], table: &mut [u8], out: &mut [u8], at: usize) 
 }
 
 // Lays the records by a table of the codes that have one: each at its code's first piece. A code that stands once is told by one test, before those for pad
-// and END.
+// and END: so this walk does not go by `option_from`.
 fn put_codes(m: &[u8], over: u32, table: &mut [u8], out: &mut [u8]) -> usize
     requires { ActiveEnds over m.now × Tells table.old (active_options over m.now) × (length (record_bytes (sheet_by table.old (active_options over m.now))) ≤ length out.old) × (length (record_bytes (sheet_by table.old (active_options over m.now))) < 65536) }
     ensures { Written out.old 0 (record_bytes (sheet_by table.old (active_options over m.now))) result out.new }
@@ -251,10 +238,10 @@ fn put_codes(m: &[u8], over: u32, table: &mut [u8], out: &mut [u8]) -> usize
             i = e;
         } else {
             if c == 255 {
-                i = next_place(over, i);
-                if i == 0 {
+                let Some(next) = next_place(over, i) else {
                     return o;
-                }
+                };
+                i = next;
             } else {
                 if c == 0 {
                     i = i + 1;
@@ -280,59 +267,41 @@ fn put_split(m: &[u8], over: u32, out: &mut [u8]) -> usize
     put_codes(m, over, &mut table, out)
 }
 
-// 3 where option 52 was met, whose data then start at s: its code and length in a record.
-fn head_52(s: usize) -> usize
-    ensures { (result ≡ head52 s) × (result ≤ 3) }
-{
-    if s == 0 {
-        return 0;
-    }
-    3
-}
-
 // Whether n bytes are too few for the records: what all options take in their fields, with a record's head for each code and without that of each piece
 // and without option 52, of which t tells.
 fn too_small(n: usize, t: Scanned, codes: u32) -> bool
     requires { (n ≤ 2 ^ 63) × (t.used ≤ 65536) × (t.count ≤ 65536) × (t.whole ≤ 65536) }
-    ensures { result ≡ ltb (held n t) (needed t codes) }
+    ensures { result ≡ ltb (held n (told_of t)) (needed (told_of t) codes) }
 {
+    // Option 52, whose data start behind its code and length, would have a record's head too.
+    let head = 3 * t.start.min(1);
     let need = t.used + codes as usize * 3;
-    let have = n + t.count * 2 + t.whole + head_52(t.start);
+    let have = n + t.count * 2 + t.whole + head;
     have < need
 }
 
 // The records of an accepted message, of which t tells, and which has so many codes, in a buffer that is large enough.
-fn put_records(m: &[u8], t: Scanned, codes: u32, out: &mut [u8]) -> Given
-    requires { (t.number ≡ 0) × (t ≡ survey_of m.now) × (codes ≡ count_of (answers.present m.now).words) × (needed t codes ≤ held (length out.old) t) }
-    ensures { Fills (answers.records m.now out.old) result out.new }
+fn put_records(m: &[u8], t: Scanned, codes: u32, out: &mut [u8]) -> usize
+    requires { (told_of t ≡ survey_of m.now) × (codes ≡ count_of (answers.present m.now).words) × (needed (told_of t) codes ≤ held (length out.old) (told_of t)) }
+    ensures { Fills (answers.records m.now out.old) (Ok result) out.new }
 {
-    let over = t.over;
     if t.count == codes as usize {
-        return Given::Bytes(put_active(m, over, out));
+        return put_active(m, t.over, out);
     }
-    Given::Bytes(put_split(m, over, out))
+    put_split(m, t.over, out)
 }
 
 // The records of a message (document 01, Sheet of a message; document 02, request 02): one walk that judges and measures, then one that writes. Where no
 // code has several pieces, that is each option as it comes.
-pub fn records(m: &[u8], out: &mut [u8]) -> Given
+pub fn records(m: &[u8], out: &mut [u8]) -> Result<usize, Refusal>
     ensures { Fills (answers.records m.now out.old) result out.new }
 {
     let mut seen = [0; 4];
-    let w = message::codes(m, &mut seen);
-    if w.number != 0 {
-        return Given::Refused {
-            number: w.number,
-            place: w.place,
-        };
-    }
+    let t = message::codes(m, &mut seen)?;
     let codes = codeset::count(seen);
-    let n = out.len();
-    if too_small(n, w, codes) {
-        return Given::Refused {
-            number: 11,
-            place: n,
-        };
+    let room = out.len();
+    if too_small(room, t, codes) {
+        return Err(Rule::NoRoom.at(room));
     }
-    put_records(m, w, codes, out)
+    Ok(put_records(m, t, codes, out))
 }

@@ -19,6 +19,7 @@ use Rattle.buffer.specs.Written.{laid}
 use Rattle.sheet.specs.Steps.{step_of, walk_by}
 use Rattle.sheet.specs.declared.Step.{Step}
 use Rattle.sheet.specs.declared.Step.TheVariants.{Record}
+use Rattle.sheet.specs.declared.Step.TheVariants as step
 use Rattle.sheet.proofs.Steps as steps
 use Rattle.groups.specs.Parts.{outermost_size, members_at_value, past_records_value, Stops}
 use Rattle.groups.proofs.Laws.{PassesOver, past_from, past_on, pass, group_then, members_found, group_short, group_whole, group_fault}
@@ -33,6 +34,13 @@ module _ (s : List ℕ) (at : ℕ) where
 
   pub none_by : (x : Step) → x ≡ step_of (records_from at 0 (drop at s)) → none_group (records_from at 0 (drop at s)) ≡ none_group (walk_by s at x)
   none_by x e = ap none_group (steps.stepped s at x e).0
+
+  -- no record begins there
+  pub none_ends : (x : Step) → x ≡ step_of (records_from at 0 (drop at s)) → ((t n : ℕ) → x ≡ Record t n → ⊥) → none_group (records_from at 0 (drop at s)) ≡ true
+  unfolding none_group
+  none_ends step.End e h = none_by step.End e
+  none_ends step.Cut e h = none_by step.Cut e
+  none_ends (Record t n) e h = absurd (h t n refl)
 
   module _ (tag size : ℕ) (e : Record tag size ≡ step_of (records_from at 0 (drop at s))) where
     pub record_room : at + size + 3 ≤ length s

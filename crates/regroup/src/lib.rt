@@ -7,68 +7,53 @@ ghost use Rattle.options.specs.Answers.{filled_with};
 ghost use Rattle.options.specs.Grouped.{in_group};
 ghost use Rattle.options.specs.Grouped as grouped;
 ghost use Rattle.filled.specs.Fill.{Fills};
-ghost use Rattle.groups.specs.Check.{checked_of};
+ghost use Rattle.groups.specs.Check.{verdict_by};
 ghost use Rattle.regroup.specs.Parts.{movable, plain_in};
 
-use filled::Given;
-use groups::Checked;
+use refusal::{Refusal, Rule};
 use sheet::Step;
 
 // The first faulty record of a sheet that is to move, by 12 and 10 as the writer gives them: what is no record to be passed is one, but for the sheet's end.
-fn sheet_fault(s: &[u8]) -> Checked
-    ensures { result ≡ checked_of (movable (records_from 0 0 s.now)) }
+fn sheet_fault(s: &[u8]) -> Result<(), Refusal>
+    ensures { verdict_by result ≡ movable (records_from 0 0 s.now) }
 {
     let at = groups::past_records(s, 0);
     match sheet::next_record(s, at) {
-        Step::End => Checked::Passed,
-        Step::Cut => Checked::Refused {
-            number: 12,
-            place: at,
-        },
-        Step::Record { tag, size } => Checked::Refused {
-            number: 10,
-            place: at,
-        },
+        Step::End => Ok(()),
+        Step::Cut => Err(Rule::RecordTruncated.at(at)),
+        Step::Record { .. } => Err(Rule::BadCode.at(at)),
     }
 }
 
 // Lays a nameless group with the sheet inside at the front of a lent buffer, where it has room. The length counts the byte for the name.
-fn put_group(s: &[u8], out: &mut [u8]) -> Given
+fn put_group(s: &[u8], out: &mut [u8]) -> Result<usize, Refusal>
     requires { length s.now ≤ 4096 }
     ensures { Fills (filled_with (in_group s.now) out.old) result out.new }
 {
     let n = s.len();
     let room = out.len();
     if room < n + 4 {
-        return Given::Refused {
-            number: 11,
-            place: room,
-        };
+        return Err(Rule::NoRoom.at(room));
     }
     let size = n + 1;
     out[0] = 0;
     out[1] = (size / 256) as u8;
     out[2] = (size % 256) as u8;
     out[3] = 0;
-    let e = n + 4;
-    buffer::copy(&mut out[4..e], s);
-    Given::Bytes(e)
+    let end = n + 4;
+    buffer::copy(&mut out[4..end], s);
+    Ok(end)
 }
 
 // Moves an old sheet into a nameless outermost group.
-pub fn group(s: &[u8], out: &mut [u8]) -> Given
+pub fn group(s: &[u8], out: &mut [u8]) -> Result<usize, Refusal>
     ensures { Fills (grouped.move s.now out.old) result out.new }
 {
     if 4096 < s.len() {
-        return Given::Refused {
-            number: 16,
-            place: s.len(),
-        };
+        return Err(Rule::SheetTooLong.at(s.len()));
     }
-    match sheet_fault(s) {
-        Checked::Passed => return put_group(s, out),
-        Checked::Refused { number, place } => return Given::Refused { number, place },
-    }
+    sheet_fault(s)?;
+    put_group(s, out)
 }
 
 // Whether a file's outermost group is nameless, and no group stands among the records behind its name.
@@ -78,35 +63,23 @@ fn is_plain(f: &[u8]) -> bool
     if num::byte(f, 3) != 0 {
         return false;
     }
-    let mut at: usize = 4;
-    loop {
-        match sheet::next_record(f, at) {
-            Step::End => return true,
-            Step::Cut => return true,
-            Step::Record { tag, size } => {
-                if tag == 0 {
-                    return false;
-                }
-                at = at + size + 3;
-            }
+    let mut at = 4;
+    while let Step::Record { tag, size } = sheet::next_record(f, at) {
+        if tag == 0 {
+            return false;
         }
+        at += size + 3;
     }
+    true
 }
 
 // Takes the sheet back out of a file that is one nameless group with no group inside.
-pub fn ungroup(f: &[u8], out: &mut [u8]) -> Given
+pub fn ungroup(f: &[u8], out: &mut [u8]) -> Result<usize, Refusal>
     ensures { Fills (grouped.go_back f.now out.old) result out.new }
 {
-    match groups::check(f) {
-        Checked::Passed => {
-            if is_plain(f) {
-                return filled::give(&f[4..], out);
-            }
-            return Given::Refused {
-                number: 22,
-                place: 0,
-            };
-        }
-        Checked::Refused { number, place } => return Given::Refused { number, place },
+    groups::check(f)?;
+    if !is_plain(f) {
+        return Err(Rule::NoWayBack.at(0));
     }
+    filled::give(&f[4..], out)
 }

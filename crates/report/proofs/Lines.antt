@@ -1,5 +1,5 @@
 -- The report's text put together from its parts, and how long it is. Assumes nothing.
-use mathlib.Core.Path.{◌≡◌, refl, ap, ap₂, ◌∙◌}
+use mathlib.Core.Path.{◌≡◌, refl, sym, ap, ap₂, ◌∙◌}
 use mathlib.Core.Bool.{Bool, true, false, cond, not}
 use mathlib.Core.List.{List, [], ◌∷◌, ◌++◌, append_assoc}
 use Prim.Native.Nat.{ℕ, suc, ◌+◌, ◌*◌, ◌≤◌, ◌<◌, min}
@@ -11,66 +11,54 @@ use Rattle.options.specs.Answers.{decimal, blank, newline, accepted_line, refuse
 use Rattle.options.specs.Captures.{Lease, no_lease, leases, refusals_word, lease_word, none_word, messages_word, messages_line, refusals_line, refusals_lines, code_word, code_line, code_lines, lease_line, last_line, Ending, at_end, stopped_at}
 use Rattle.text.proofs.Digits.{digits_within, digits_below}
 use Rattle.theorems.proofs.View.{clash}
-use Rattle.tally.specs.declared.Lease as coded
-use Rattle.tally.specs.Noted.{lease_of}
-use Rattle.captures.specs.declared.Progress.{Progress}
-use Rattle.report.specs.Printed.{one_text, two_text, is_open_value, last_text}
+use Rattle.captures.specs.Standing.{Progress}
+use Rattle.report.specs.Printed.{more_text, line_text, is_open_value, last_text}
 
 -- ---- Lines made
 
-module _ (w : List ℕ) (n : ℕ) where
-  pub one_made : (w ++ decimal n) ++ (newline ∷ []) ≡ one_text w n
-  one_made = simp append_assoc
+pub line_made : (w : List ℕ) (n : ℕ) (ns : List ℕ) → (w ++ decimal n) ++ more_text ns ≡ line_text w n ns
+line_made w n ns = append_assoc w (decimal n) (more_text ns)
 
-module _ (w : List ℕ) (n k : ℕ) where
-  pub two_made : (((w ++ decimal n) ++ (blank ∷ [])) ++ decimal k) ++ (newline ∷ []) ≡ two_text w n k
-  two_made = simp append_assoc
+pub more_next : (i : ℕ) (ns : List ℕ) → i < length ns → more_text (drop i ns) ≡ (blank ∷ decimal (get_or ns i 0)) ++ more_text (drop (i + 1) ns)
+more_next i ns h =
+    let z : suc i ≡ i + 1 = omega arith in
+    ap more_text (drop-cons ns i 0 h) ∙ ap (λ (j : ℕ). blank ∷ (decimal (get_or ns i 0) ++ more_text (drop j ns))) z
 
-module _ (c n b : ℕ) where
-  pub code_made : (((((code_word ++ decimal c) ++ (blank ∷ [])) ++ decimal n) ++ (blank ∷ [])) ++ decimal b) ++ (newline ∷ []) ≡ code_line c n b
-  unfolding code_line
-  code_made = simp append_assoc
+pub more_none : (i : ℕ) (ns : List ℕ) → length ns ≤ i → newline ∷ [] ≡ more_text (drop i ns)
+more_none i ns h = sym (ap more_text (drop_of_length-le ns {i = i} h))
 
-pub messages_one : (n : ℕ) → one_text messages_word n ≡ messages_line n
-unfolding messages_line
-messages_one n = refl
-
-pub accepted_one : (n : ℕ) → one_text accepted_word n ≡ accepted_line n
-unfolding accepted_line
-accepted_one n = refl
-
-pub refusal_two : (k n : ℕ) → two_text refusals_word k n ≡ refusals_line k n
+pub refusal_two : (k n : ℕ) → line_text refusals_word k (n ∷ []) ≡ refusals_line k n
 unfolding refusals_line
 refusal_two k n = refl
 
-pub no_lease_line : (l : coded.Lease) → not l.any ≡ true → lease_word ++ (none_word ++ (newline ∷ [])) ≡ lease_line (lease_of l)
-unfolding lease_line
-no_lease_line l h = go l.any h
-  where
-    go : (b : Bool) → not b ≡ true → lease_word ++ (none_word ++ (newline ∷ [])) ≡ lease_line (cond b (leases l.smallest l.largest) no_lease)
-    go true e = clash (cc)
-    go false e = refl
+pub code_made : (c n b : ℕ) → line_text code_word c (n ∷ b ∷ []) ≡ code_line c n b
+unfolding code_line
+code_made c n b = refl
 
-pub lease_two : (l : coded.Lease) → not l.any ≡ false → two_text lease_word l.smallest l.largest ≡ lease_line (lease_of l)
+pub messages_one : (n : ℕ) → line_text messages_word n [] ≡ messages_line n
+unfolding messages_line
+messages_one n = refl
+
+pub accepted_one : (n : ℕ) → line_text accepted_word n [] ≡ accepted_line n
+unfolding accepted_line
+accepted_one n = refl
+
+pub no_lease_line : lease_word ++ (none_word ++ (newline ∷ [])) ≡ lease_line no_lease
 unfolding lease_line
-lease_two l h = go l.any h
-  where
-    go : (b : Bool) → not b ≡ false → two_text lease_word l.smallest l.largest ≡ lease_line (cond b (leases l.smallest l.largest) no_lease)
-    go true e = refl
-    go false e = clash (cc)
+no_lease_line = refl
+
+pub lease_two : (s l : ℕ) → line_text lease_word s (l ∷ []) ≡ lease_line (leases s l)
+unfolding lease_line
+lease_two s l = refl
 
 pub nothing_last : (p : Progress) (o : Bool) → o ≡ is_open_value p → o ≡ false → [] ≡ last_text p
 nothing_last p true e h = clash (cc)
 nothing_last p false e h = ap (λ (b : Bool). cond b (refused_line 24 p.began) []) e
 
-pub refused_last : (p : Progress) (o : Bool) → o ≡ is_open_value p → o ≡ true → two_text refused_word 24 p.began ≡ last_text p
+pub refused_last : (p : Progress) (o : Bool) → o ≡ is_open_value p → o ≡ true → line_text refused_word 24 (p.began ∷ []) ≡ last_text p
 unfolding refused_line
 refused_last p true e h = ap (λ (b : Bool). cond b (refused_line 24 p.began) []) e
 refused_last p false e h = clash (cc)
-
-pub no_first : (xs : List ℕ) → length xs ≤ 0 → 0 ≡ get_or xs 0 0
-no_first [] h = refl
-no_first (x ∷ xs) h = absurd (omega arith)
 
 -- ---- Line after line
 
@@ -118,12 +106,6 @@ codes_none c h b l = by (native.Mathlib.Decide.dec_lt c (length h))
     by (no x) = ap (λ (ns : List ℕ). code_lines c ns (drop c b)) (drop_of_length-le h {i = c} (omega (arith, x)))
 
 -- ---- How long
-
-two_size : (w : List ℕ) (n k : ℕ) → length (two_text w n k) ≡ length w + length (decimal n) + length (decimal k) + 2
-two_size w n k = simp length-append (omega arith)
-
-one_size : (w : List ℕ) (n : ℕ) → length (one_text w n) ≡ length w + length (decimal n) + 1
-one_size w n = simp length-append (omega arith)
 
 pub messages_short : (n : ℕ) → length (messages_line n) ≤ 30
 unfolding messages_line

@@ -11,9 +11,8 @@ use Rattle.options.specs.Answers.{accepted_word, accepted_line, refused_line}
 use Rattle.options.specs.Captures.{Lease, no_lease, leases, Tally, Stage, ending_in, Ending, stopped_at, Run, messages_word, messages_line, refusals_lines, code_lines, lease_line, last_line, report_of, report, report_so_far}
 use Rattle.captures_theorems.proofs.Runs.{run_is_the_file}
 use Rattle.tally.specs.Noted.{lease_of, lease_in}
-use Rattle.captures.specs.declared.Progress.{Progress}
-use Rattle.captures.specs.Standing.{StageIs, before_record, after_tag, after_high, in_message, was_refused, tidied, Stands}
-use Rattle.report.specs.Printed.{one_text, is_open_value, last_text, text_of, Reports, FileIsReported}
+use Rattle.captures.specs.Standing.{Progress, StageIs, before_record, after_tag, after_high, in_message, was_refused, tidied, Stands}
+use Rattle.report.specs.Printed.{line_text, is_open_value, last_text, text_of, Reports, FileIsReported}
 use Rattle.text.specs.Text.{fitting, Puts}
 use Rattle.text.proofs.Putting.{puts_as, puts_more, puts_front}
 use Rattle.report.proofs.Lines.{messages_one, accepted_one, messages_short, accepted_short, refusals_short, codes_short, lease_short, last_short}
@@ -89,7 +88,7 @@ reports p v h b old r after l q s message t =
     puts_front (omega (arith, text_short p v h b t.lent.eight t.lent.held_all, ap length z)) (puts_as z q)
 
 -- line after line
-pub whole_text : (p : Progress) (v h b : List ℕ) {old o1 o2 o3 o4 o5 o6 : List ℕ} {i1 i2 i3 i4 i5 i6 : ℕ} → Puts old 0 (one_text messages_word p.messages) i1 o1 → Puts o1 i1 (one_text accepted_word (get_or v 0 0)) i2 o2
+pub whole_text : (p : Progress) (v h b : List ℕ) {old o1 o2 o3 o4 o5 o6 : List ℕ} {i1 i2 i3 i4 i5 i6 : ℕ} → Puts old 0 (line_text messages_word p.messages []) i1 o1 → Puts o1 i1 (line_text accepted_word (get_or v 0 0) []) i2 o2
     → Puts o2 i2 (refusals_lines 1 (drop 1 v)) i3 o3 → Puts o3 i3 (code_lines 0 h b) i4 o4 → Puts o4 i4 (lease_line (lease_of p.lease)) i5 o5 → Puts o5 i5 (last_text p) i6 o6
     → Puts old 0 (text_of p v h b) i6 o6
 unfolding text_of
@@ -98,10 +97,10 @@ whole_text p v h b q1 q2 q3 q4 q5 q6 = puts_as made (puts_more (puts_more (puts_
     five : (a b c d e f : List ℕ) → ((((a ++ b) ++ c) ++ d) ++ e) ++ f ≡ a ++ (b ++ (c ++ (d ++ (e ++ f))))
     five a b c d e f = simp append_assoc
 
-    made : ((((one_text messages_word p.messages ++ one_text accepted_word (get_or v 0 0)) ++ refusals_lines 1 (drop 1 v)) ++ code_lines 0 h b) ++ lease_line (lease_of p.lease)) ++ last_text p
+    made : ((((line_text messages_word p.messages [] ++ line_text accepted_word (get_or v 0 0) []) ++ refusals_lines 1 (drop 1 v)) ++ code_lines 0 h b) ++ lease_line (lease_of p.lease)) ++ last_text p
         ≡ messages_line p.messages ++ (accepted_line (get_or v 0 0) ++ (refusals_lines 1 (drop 1 v) ++ (code_lines 0 h b ++ (lease_line (lease_of p.lease) ++ last_text p))))
     made =
-        five (one_text messages_word p.messages) (one_text accepted_word (get_or v 0 0)) (refusals_lines 1 (drop 1 v)) (code_lines 0 h b) (lease_line (lease_of p.lease)) (last_text p)
+        five (line_text messages_word p.messages []) (line_text accepted_word (get_or v 0 0) []) (refusals_lines 1 (drop 1 v)) (code_lines 0 h b) (lease_line (lease_of p.lease)) (last_text p)
         ∙ ap₂ (λ (x y : List ℕ). x ++ (y ++ (refusals_lines 1 (drop 1 v) ++ (code_lines 0 h b ++ (lease_line (lease_of p.lease) ++ last_text p))))) (messages_one p.messages) (accepted_one (get_or v 0 0))
 
 -- nothing is put past the buffer

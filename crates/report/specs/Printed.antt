@@ -3,8 +3,7 @@ use Rattle.std.specs.Prelude.{◌≡◌, Bool, true, cond, List, [], ◌∷◌, 
 use Rattle.options.specs.Answers.{decimal, blank, newline, accepted_line, refused_line}
 use Rattle.options.specs.Captures.{messages_line, refusals_lines, code_lines, lease_line, Run, begun, fed, report, report_so_far}
 use Rattle.tally.specs.Noted.{lease_of}
-use Rattle.captures.specs.declared.Progress.{Progress}
-use Rattle.captures.specs.Standing.{is_inside, tidied, Stands}
+use Rattle.captures.specs.Standing.{Progress, is_inside, tidied, Stands}
 
 -- [H6] whatever the numbers stand for, with any Progress: its report is put at the front of the buffer, and nothing else is
 abbrev pub Reports : Progress → List ℕ → List ℕ → List ℕ → List ℕ → ℕ → List ℕ → Type 0
@@ -18,12 +17,13 @@ FileIsReported = (f : List ℕ) → report_so_far (fed begun f) ≡ report f
 
 -- ---- Internals
 
--- a word with one number, and with two
-abbrev pub one_text : List ℕ → ℕ → List ℕ
-one_text word n = word ++ (decimal n ++ (newline ∷ []))
+-- a line: a word and numbers, one after another
+abbrev pub more_text : List ℕ → List ℕ
+more_text [] = newline ∷ []
+more_text (n ∷ ns) = blank ∷ (decimal n ++ more_text ns)
 
-abbrev pub two_text : List ℕ → ℕ → ℕ → List ℕ
-two_text word n k = word ++ (decimal n ++ (blank ∷ (decimal k ++ (newline ∷ []))))
+abbrev pub line_text : List ℕ → ℕ → List ℕ → List ℕ
+line_text word n ns = word ++ (decimal n ++ more_text ns)
 
 -- a record is not whole, or was refused
 abbrev pub is_open_value : Progress → Bool

@@ -4,18 +4,17 @@ use Rattle.options.specs.KindClaims.{AllBytes}
 use Rattle.options.specs.Captures.{begun, fed, report, report_so_far}
 use Rattle.theorems.proofs.CodesPresent.{all_take}
 use Rattle.captures_theorems.proofs.Reports.{all_append}
-use Rattle.captures.specs.declared.Progress.{Progress}
-use Rattle.captures.specs.Standing.{Stands, Feeds, none_read}
+use Rattle.captures.specs.Standing.{Progress, Stands, Feeds, none_read}
 use Rattle.captures.proofs.Beginning.{begun_empty}
 use Rattle.captures.proofs.States.{standing_is_tidy, fed_more}
 use Rattle.report.specs.Printed.{Reports}
 use Rattle.report.proofs.Whole.{file_is_reported}
 use Rattle.report_captures.specs.Filled.{Filled, Printed}
 
-pub filled_first : (p : Progress) (m v h b : List ℕ) → p ≡ none_read → Filled m v h b 0 p m v h b
+pub filled_first : (p : Progress) (total : ℕ) (m v h b : List ℕ) → p ≡ none_read → total ≡ 0 → Filled m v h b total p m v h b
 unfolding fed
-filled_first p m v h b e room vs hs bs =
-    ([], tt, refl, subst (λ (x : List ℕ). Stands begun p m x h b) (sym vs) (subst (λ (x : List ℕ). Stands begun p m (replicate 8 0) x b) (sym hs) (subst (λ (x : List ℕ). Stands begun p m (replicate 8 0) (replicate 256 0) x) (sym bs) (subst (λ (q : Progress). Stands begun q m (replicate 8 0) (replicate 256 0) (replicate 256 0)) (sym e) (begun_empty m room)))))
+filled_first p total m v h b e z room vs hs bs =
+    ([], tt, z, subst (λ (x : List ℕ). Stands begun p m x h b) (sym vs) (subst (λ (x : List ℕ). Stands begun p m (replicate 8 0) x b) (sym hs) (subst (λ (x : List ℕ). Stands begun p m (replicate 8 0) (replicate 256 0) x) (sym bs) (subst (λ (q : Progress). Stands begun q m (replicate 8 0) (replicate 256 0) (replicate 256 0)) (sym e) (begun_empty m room)))))
 
 pub filled_more : (m₀ v₀ h₀ b₀ : List ℕ) {total : ℕ} {p : Progress} {m v h b : List ℕ} {q : Progress} {m' v' h' b' : List ℕ} → Filled m₀ v₀ h₀ b₀ total p m v h b → (part : List ℕ) (n : ℕ) → AllBytes part
     → n ≤ length part → (next : ℕ) → next ≡ (total + n) % 2 ^ 64 → Feeds (take n part) p m v h b q m' v' h' b' → Filled m₀ v₀ h₀ b₀ next q m' v' h' b'

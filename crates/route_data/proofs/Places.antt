@@ -7,7 +7,14 @@ use lib.ListN.{length, get_or, drop, length-drop, drop_of_length-le}
 use lib.Seq.{drop-drop, drop-cons}
 use Rattle.options.specs.Kinds.{width_bytes, behind, routes_fault_value}
 use Rattle.theorems.proofs.RouteRow.{route_wide, route_cut, route_right, route_sound, fault_first, fault_next}
+use Rattle.refusal.specs.Refused.{fault_number}
+use Rattle.refusal.specs.declared.Fault.{Fault}
+use Rattle.refusal.specs.declared.Fault.TheVariants.{Length, Value}
 use Rattle.route_data.specs.Route.{fault_here}
+
+pub a_fault : (f : Fault) → fault_number f ≡ 0 → ⊥
+a_fault Length e = absurd (omega (arith, e))
+a_fault Value e = absurd (omega (arith, e))
 
 pub route_none : (d : List ℕ) (at : ℕ) → length d ≤ at → fault_here (drop at d) ≡ 8
 route_none d at h = rw (drop_of_length-le d {i = at} h)
@@ -35,8 +42,8 @@ module _ (d : List ℕ) (at : ℕ) (h : at < length d) where
   pub route_at_right : w ≤ 32 → width_bytes w + 5 ≤ length d - at → fault_here (drop at d) ≡ 0
   route_at_right g l = rw route_head (route_right w (drop (suc at) d) g (omega (arith, route_rest)))
 
-  pub routes_stop : (n : ℕ) → n ≡ fault_here (drop at d) → (n ≡ 0 → ⊥) → routes_fault_value 0 (drop at d) ≡ n
-  routes_stop n e z = rw route_head (fault_first w (drop (suc at) d) n (rw route_head at e) z)
+  pub routes_stop : (f : Fault) → fault_number f ≡ fault_here (drop at d) → routes_fault_value 0 (drop at d) ≡ fault_number f
+  routes_stop f e = rw route_head (fault_first w (drop (suc at) d) (fault_number f) (rw route_head at e) (a_fault f))
 
   -- a right route ends within the data, and the rest is judged as all are
   pub route_within : fault_here (drop at d) ≡ 0 → at + (width_bytes w + 5) ≤ length d

@@ -4,7 +4,10 @@ use mathlib.Core.List.{List, [], ◌∷◌, ◌++◌}
 use mathlib.Core.Option.{none}
 use Prim.Native.Nat.{ℕ, suc, ◌+◌, ◌-◌, ◌≤◌, ◌<◌}
 use native.Mathlib.Omega.{arith}
-use lib.ListN.{length, get_or, take, drop, length-drop, take-append-drop}
+use lib.ListN.{length, get_or, take, drop, length-drop, length-append, get_or-append, take-append-drop}
+use native.Mathlib.Decide.{dec_lt}
+use Rattle.std.proofs.lemmas.List.{drop-append-le, take-append-le}
+use Rattle.std.proofs.Math.Seq.{drop-append_seam}
 use lib.Seq.{take_at, drop-drop, drop-append-add, take-take, length-take-le}
 use borrow.Rule.Slice.PartMut.{put_mid, mid_of}
 use Rattle.buffer.specs.Copy.{copied}
@@ -109,52 +112,69 @@ module _ (out s : List ℕ) (o n : ℕ) (h : 9 ≤ length s) (q : n ≡ width_by
 
 -- ---- Route after route
 
--- From `at` on no route is faulty. With those from there on placed at o in the output `now`, all are placed at its start in `old`.
-pub record Laying (s old now : List ℕ) (o at : ℕ) : Type 0 where
+-- No route of `rest` is faulty. With those of it placed at o in the output `now`, all are placed at its start in `old`.
+pub record Laying (s old now rest : List ℕ) (o : ℕ) : Type 0 where
   pub number : ℕ
-  pub at_in : at ≤ length s
-  pub fine : faulty_from number 0 (drop at s) ≡ none
-  pub room : o + length (route_bytes 0 (drop at s)) ≤ length now
+  pub fine : faulty_from number 0 rest ≡ none
+  pub room : o + length (route_bytes 0 rest) ≤ length now
   pub same : length now ≡ length old
-  pub whole : (r : ℕ) (last : List ℕ) → Written now o (route_bytes 0 (drop at s)) r last → Written old 0 (route_bytes 0 s) r last
+  pub whole : (r : ℕ) (last : List ℕ) → Written now o (route_bytes 0 rest) r last → Written old 0 (route_bytes 0 s) r last
 
-pub laying_begins : (s old : List ℕ) → faulty_from 0 0 s ≡ none → length (route_bytes 0 s) ≤ length old → Laying s old old 0 0
-laying_begins s old e h = record { number = 0; at_in = omega arith; fine = e; room = omega arith; same = refl; whole = λ r last p. p }
+pub laying_begins : (s old : List ℕ) → faulty_from 0 0 s ≡ none → length (route_bytes 0 s) ≤ length old → Laying s old old s 0
+laying_begins s old e h = record { number = 0; fine = e; room = omega arith; same = refl; whole = λ r last p. p }
 
-module _ {s old now : List ℕ} {o at : ℕ} (y : Laying s old now o at) where
-  pub laying_ends : length s ≤ at → Written old 0 (route_bytes 0 s) o now
-  laying_ends h = y.whole o now (rw (bytes_none (drop at s) (simp length-drop (omega arith))) (written_none now o))
+-- a route stands in what is behind it as by itself
+one_is : (w : ℕ) (x t : List ℕ) → w ≤ 32 → length x ≡ 9 → one_route w (drop 1 (x ++ t)) ≡ one_route w (drop 1 x)
+one_is w x t g h =
+    let n : length (drop 1 x) ≡ 8 = omega (arith, length-drop 1 x) in
+    let front : take (width_bytes w) (drop 1 x ++ t) ≡ take (width_bytes w) (drop 1 x) = take-append-le (width_bytes w) (drop 1 x) t (omega arith) in
+    let back : take 4 (drop 4 (drop 1 x) ++ t) ≡ take 4 (drop 4 (drop 1 x)) = take-append-le 4 (drop 4 (drop 1 x)) t (omega (arith, length-drop 4 (drop 1 x))) in
+    rw (drop-append-le 1 x t (omega arith), front, drop-append-le 4 (drop 1 x) t (omega arith), back)
 
-  module _ (h : at < length s) where
-    here : Passed y.number (drop at s)
-    here = passed_none y.number (drop at s) (simp length-drop (omega arith)) y.fine
+module _ {s old now rest : List ℕ} {o : ℕ} (y : Laying s old now rest o) where
+  here : 1 ≤ length rest → Passed y.number rest
+  here h = passed_none y.number rest h y.fine
 
+  pub laying_ends : length rest < 9 → Written old 0 (route_bytes 0 s) o now
+  laying_ends h = y.whole o now (rw (bytes_none rest (none_here (dec_lt 0 (length rest)))) (written_none now o))
+    where
+      none_here : Dec (0 < length rest) → length rest ≤ 0
+      none_here (yes q) = absurd (omega (arith, (here (omega arith)).whole))
+      none_here (no q) = omega arith
+
+  module _ (x t : List ℕ) (e : rest ≡ x ++ t) (l : length x ≡ 9) where
     abbrev width : ℕ
-    width = get_or (drop at s) 0 0
+    width = get_or x 0 0
 
-    pub whole_here : 9 ≤ length (drop at s)
-    whole_here = here.whole
+    some : 9 ≤ length rest
+    some = omega (arith, ap length e, length-append x t)
+
+    width_is : get_or rest 0 0 ≡ width
+    width_is = rw e (get_or-append x t 0 0 (omega arith))
 
     pub narrow_here : width ≤ 32
-    narrow_here = here.narrow
+    narrow_here = rw (← width_is) (here (omega (arith, some))).narrow
 
-    pub all_here : at + 9 ≤ length s
-    all_here = omega (arith, here.whole, length-drop at s)
+    bytes_here : length (route_bytes 0 rest) ≡ width_bytes width + 5 + length (route_bytes 0 (drop 9 rest))
+    bytes_here = rw width_is at (bytes_length rest some (rw width_is narrow_here))
+
+    behind : drop 9 rest ≡ t
+    behind = rw (e, ← l) (drop-append_seam x t)
 
     pub room_here : o + (width_bytes width + 5) ≤ length now
-    room_here = omega (arith, y.room, bytes_length (drop at s) here.whole here.narrow)
+    room_here = omega (arith, y.room, bytes_here)
 
-    pub laying_on : {k : ℕ} {later : List ℕ} → length later ≡ length now → Written now o (one_route width (drop 1 (drop at s))) k later → Laying s old later k (at + 9)
-    laying_on {k} {later} e p =
-        let one : List ℕ = one_route width (drop 1 (drop at s)) in
-        let rest : List ℕ = route_bytes 0 (drop 9 (drop at s)) in
-        let n : length one ≡ width_bytes width + 5 = one_length width (drop 1 (drop at s)) here.narrow (omega (arith, length-drop 1 (drop at s), here.whole)) in
-        let m = bytes_length (drop at s) here.whole here.narrow in
+    pub laying_on : {k : ℕ} {later : List ℕ} → length later ≡ length now → Written now o (one_route width (drop 1 x)) k later → Laying s old later t k
+    laying_on {k} {later} q p =
+        let n : length (one_route width (drop 1 x)) ≡ width_bytes width + 5 = one_length width (drop 1 x) narrow_here (omega (arith, length-drop 1 x)) in
+        let one : one_route width (drop 1 x) ≡ one_route (get_or rest 0 0) (drop 1 rest) =
+        sym (one_is width x t narrow_here l) ∙ ap (λ (z : List ℕ). one_route width (drop 1 z)) (sym e) ∙ ap (λ (z : ℕ). one_route z (drop 1 rest)) (sym width_is) in
+        let bytes : one_route width (drop 1 x) ++ route_bytes 0 t ≡ route_bytes 0 rest =
+        ap (λ (z : List ℕ). z ++ route_bytes 0 t) one ∙ ap (λ (z : List ℕ). one_route (get_or rest 0 0) (drop 1 rest) ++ route_bytes 0 z) (sym behind) ∙ sym (bytes_one rest some) in
         record {
           number = suc y.number;
-          at_in = all_here;
-          fine = rw (← drop-drop 9 at s) (sym here.on ∙ y.fine);
-          room = rw (← drop-drop 9 at s) (omega (arith, p.next));
-          same = e ∙ y.same;
-          whole = rw (← drop-drop 9 at s) (λ r last x. y.whole r last (rw (bytes_one (drop at s) here.whole) (written_more p x)));
+          fine = rw (← behind) (sym (here (omega (arith, some))).on ∙ y.fine);
+          room = rw (← behind) (omega (arith, p.next, y.room, bytes_here));
+          same = q ∙ y.same;
+          whole = λ r last z. y.whole r last (written_as bytes (written_more p z));
         }

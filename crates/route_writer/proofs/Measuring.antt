@@ -10,7 +10,8 @@ use lib.ListN.{length, get_or, drop, length-drop}
 use lib.Seq.{drop-drop, get_or-drop}
 use Rattle.options.specs.Kinds.{width_bytes}
 use Rattle.options.specs.Routes.{faulty_from, first_faulty, route_bytes}
-use Rattle.route_writer.specs.declared.Measured.TheVariants.{Faulty, Size}
+use Rattle.std.specs.Prelude.{Ok, Err}
+use Rattle.refusal.specs.declared.Rule.TheVariants.{BadRoute}
 use Rattle.route_writer.specs.Measure.{faulty_at, measured}
 use Rattle.route_writer.proofs.One.{faulty_is, Passed, passed, none_left, first_is, first_none, bytes_none, bytes_length}
 
@@ -20,14 +21,14 @@ pub record Measuring (s : List ℕ) (at k size : ℕ) : Type 0 where
   pub small : size ≤ at
   pub same : measured (faulty_from k 0 (drop at s)) (size + length (route_bytes 0 (drop at s))) ≡ measured (first_faulty s) (length (route_bytes 0 s))
 
-pub measure_none : (s : List ℕ) → length s ≡ 0 → Faulty 0 ≡ measured (first_faulty s) (length (route_bytes 0 s))
+pub measure_none : (s : List ℕ) → length s ≡ 0 → Err (record { rule = BadRoute; place = 0 }) ≡ measured (first_faulty s) (length (route_bytes 0 s))
 measure_none s h = rw (first_none s h)
 
 pub measure_begins : (s : List ℕ) → (length s ≡ 0 → ⊥) → Measuring s 0 0 0
 measure_begins s h = record { at_in = omega arith; few = omega arith; small = omega arith; same = let l : 1 ≤ length s = omega (arith, h) in rw (first_is s l, zero-add) }
 
 module _ {s : List ℕ} {at k size : ℕ} (y : Measuring s at k size) where
-  pub measure_ends : length s ≤ at → Size size ≡ measured (first_faulty s) (length (route_bytes 0 s))
+  pub measure_ends : length s ≤ at → Ok size ≡ measured (first_faulty s) (length (route_bytes 0 s))
   measure_ends h =
       let l : length (drop at s) ≤ 0 = simp length-drop (omega arith) in
       let n : length (route_bytes 0 (drop at s)) ≡ 0 = rw (bytes_none (drop at s) l) in
@@ -37,7 +38,7 @@ module _ {s : List ℕ} {at k size : ℕ} (y : Measuring s at k size) where
     left : 1 ≤ length (drop at s)
     left = simp length-drop (omega arith)
 
-    pub measure_faulty : faulty_at (drop at s) ≡ true → Faulty k ≡ measured (first_faulty s) (length (route_bytes 0 s))
+    pub measure_faulty : faulty_at (drop at s) ≡ true → Err (record { rule = BadRoute; place = k }) ≡ measured (first_faulty s) (length (route_bytes 0 s))
     measure_faulty e = rw (← y.same, faulty_is k (drop at s) left e)
 
     pub here : faulty_at (drop at s) ≡ false → Passed k (drop at s)

@@ -9,14 +9,7 @@ ghost use Rattle.buffer.specs.Written.{Written};
 ghost use Rattle.filled.specs.Fill.{Fills};
 ghost use Rattle.route_writer.specs.Measure.{faulty_at, measured};
 
-use filled::Given;
-
-// The number of the first faulty route, or how many bytes the routes take.
-#[derive(Clone, Copy)]
-pub enum Measured {
-    Faulty(usize),
-    Size(usize),
-}
+use refusal::{Refusal, Rule};
 
 // Whether x has a bit past the width w. In 64 bits, so that a width of 32 moves all of them out of the low 32; those past the width stay there.
 fn set_past(x: u32, w: u8) -> bool
@@ -40,25 +33,26 @@ fn is_faulty(s: &[u8]) -> bool
     set_past(num::first32(&s[1..5]), w)
 }
 
-// One pass that judges and measures.
-fn measure(s: &[u8]) -> Measured
+// One pass that judges and measures: how many bytes the routes take, if none is faulty.
+// It counts places, since over chunks of nine the writer takes more instructions than plain C.
+fn measure(s: &[u8]) -> Result<usize, Refusal>
     ensures { result ≡ measured (first_faulty s.now) (length (route_bytes 0 s.now)) }
 {
-    if s.len() == 0 {
-        return Measured::Faulty(0);
+    if s.is_empty() {
+        return Err(Rule::BadRoute.at(0));
     }
     let mut at: usize = 0;
     let mut k: usize = 0;
     let mut size: usize = 0;
     while at < s.len() {
         if is_faulty(&s[at..]) {
-            return Measured::Faulty(k);
+            return Err(Rule::BadRoute.at(k));
         }
         size = size + (route_data::width_bytes(s[at]) + 5);
         at = at + 9;
         k = k + 1;
     }
-    Measured::Size(size)
+    Ok(size)
 }
 
 // Lays the route that s begins with over out from o on, and gives the place behind it.
@@ -82,32 +76,20 @@ fn put_routes(out: &mut [u8], s: &[u8]) -> usize
     ensures { Written out.old 0 (route_bytes 0 s.now) result out.new }
 {
     let mut o: usize = 0;
-    let mut at: usize = 0;
-    while at < s.len() {
-        o = put_route(out, o, &s[at..]);
-        at = at + 9;
+    for route in s.chunks_exact(9) {
+        o = put_route(out, o, route);
     }
     o
 }
 
 // The data of option 121 from nine bytes a route, in the buffer out: one pass that judges and measures, then one that writes. A refusal changes no byte.
-pub fn write(s: &[u8], out: &mut [u8]) -> Given
+pub fn write(s: &[u8], out: &mut [u8]) -> Result<usize, Refusal>
     ensures { Fills (write_routes s.now out.old) result out.new }
 {
-    let m = measure(s);
-    match m {
-        Measured::Faulty(k) => Given::Refused {
-            number: 26,
-            place: k,
-        },
-        Measured::Size(n) => {
-            if out.len() < n {
-                return Given::Refused {
-                    number: 11,
-                    place: out.len(),
-                };
-            }
-            Given::Bytes(put_routes(out, s))
-        }
+    let size = measure(s)?;
+    let room = out.len();
+    if room < size {
+        return Err(Rule::NoRoom.at(room));
     }
+    Ok(put_routes(out, s))
 }

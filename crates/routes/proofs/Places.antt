@@ -7,7 +7,7 @@ use lib.ListN.{length, get_or, take, drop, length-drop}
 use lib.Pow.{shr-shr}
 use lib.Seq.{drop-cons, drop-drop, get_or-drop, get_or-take}
 use Rattle.options.specs.Kinds.{first32, width_bytes, behind, route_fault_value}
-use Rattle.options.specs.Routes.{cleared, route_in, RouteStep, next, done, unless_faulty, route_here, route_step}
+use Rattle.options.specs.Routes.{Route, cleared, route_in, RouteStep, next, done, unless_faulty, route_here, route_step}
 use Rattle.route_data.specs.Route.{fault_here}
 use Rattle.theorems.proofs.RouteRow.{route_sound}
 use Rattle.route_theorems.proofs.Steps.{step_next}
@@ -24,6 +24,21 @@ step_faulty d at n e z = by (drop at d) e
     by : (xs : List ℕ) → n ≡ fault_here xs → route_here at xs ≡ done
     by [] q = refl
     by (w ∷ xs) q = stops (route_fault_value w xs) (next (route_in w xs) (at + suc (behind w))) q
+
+-- a step that gives a route is taken within the data, and leads on
+pub step_on : (d : List ℕ) (at : ℕ) (q : Route) (k : ℕ) → route_step d at ≡ next q k → (at < length d) × (at < k)
+unfolding route_step
+step_on d at q k e = by (drop at d) refl e
+  where
+    right : (n : ℕ) (r : Route) (j : ℕ) → unless_faulty n (next r j) ≡ next q k → j ≡ k
+    right zero r j g = cc
+    right (suc n) r j g = cc
+
+    by : (xs : List ℕ) → drop at d ≡ xs → route_here at xs ≡ next q k → (at < length d) × (at < k)
+    by [] h g = cc
+    by (w ∷ xs) h g =
+        let j : at + suc (behind w) ≡ k = right (route_fault_value w xs) (route_in w xs) (at + suc (behind w)) g in
+        (omega (arith, simp length-drop at (ap length h)), omega arith)
 
 -- a right route is within the data
 pub step_within : (d : List ℕ) (at : ℕ) → fault_here (drop at d) ≡ 0 → at < length d

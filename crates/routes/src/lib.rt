@@ -3,33 +3,28 @@
 
 ghost use Rattle.std.specs.Prelude.{◌≡◌};
 ghost use Rattle.options.specs.Routes.{cleared, route_step};
-ghost use Rattle.routes.specs.Walk.{cursor_of, step_of, ReaderGivesTheRoutes, CursorKeepsTheStep, DoneGivesNothing};
+ghost use Rattle.routes.specs.Walk.{step_by, ReaderGivesTheRoutes, EntryKeepsTheStep, DoneGivesNothing};
 
-// What stands at a place of the data (document 02, request 14): a route and the place behind it, or nothing and the same place.
-#[derive(Clone, Copy)]
-pub struct Cursor {
-    pub given: bool,
+// A route (document 02, request 14): its addresses are numbers, and the destination has no bit past the width.
+#[derive(Clone, Copy, Debug, PartialEq, Eq)]
+pub struct Route {
     pub destination: u32,
     pub width: u8,
     pub router: u32,
+}
+
+// What stands at a place of the data (document 02, request 14): a route, and the place behind it.
+#[derive(Clone, Copy, Debug, PartialEq, Eq)]
+pub struct Entry {
+    pub route: Route,
     pub next: usize,
 }
 
-// The data and a place in them (document 02, request 14).
-#[derive(Clone, Copy)]
+// The data and a place in them (document 02, request 14). Its routes are those from the place on.
+#[derive(Clone, Copy, Debug)]
 pub struct RouteReader<'a> {
     pub list: &'a [u8],
     pub at: usize,
-}
-
-// A step (document 02, request 14): the reader moved on, whether a route is given, and which. Done: none is, and the reader is where it was.
-#[derive(Clone, Copy)]
-pub struct Stepped<'a> {
-    pub reader: RouteReader<'a>,
-    pub given: bool,
-    pub destination: u32,
-    pub width: u8,
-    pub router: u32,
 }
 
 // x with the bits past the width w cleared. In 64 bits, so that a width of 0 clears all 32.
@@ -43,60 +38,46 @@ pub fn cleared(x: u32, w: u8) -> u32
     (((x as u64) >> k) << k) as u32
 }
 
-// One step at any place of any data (document 02, request 14): the route there, or done at the end or at a faulty route. `step` leaves the work to it.
-pub fn step_at(list: &[u8], at: usize) -> Cursor
-    ensures { result ≡ cursor_of at (route_step list.now at) }
+// One step at any place of any data (document 02, request 14): the route there, or none at the end or at a faulty route. The iterator leaves the work to it.
+pub fn step_at(list: &[u8], at: usize) -> Option<Entry>
+    ensures { step_by result ≡ route_step list.now at }
 {
-    if route_data::route_fault(list, at) != 0 {
-        return Cursor {
-            given: false,
-            destination: 0,
-            width: 0,
-            router: 0,
-            next: at,
-        };
+    if let Some(_) = route_data::route_fault(list, at) {
+        return None;
     }
-    let w = list[at];
+    let width = list[at];
     let start = at + 1;
-    let end = start + route_data::width_bytes(w);
+    let end = start + route_data::width_bytes(width);
     let next = end + 4;
     // Four bytes are there in any case: those that the destination has not are the router's, and cleared.
-    let destination = cleared(num::first32(&list[start..start + 4]), w);
+    let destination = cleared(num::first32(&list[start..start + 4]), width);
     let router = num::first32(&list[end..next]);
-    Cursor {
-        given: true,
+    let route = Route {
         destination,
-        width: w,
+        width,
         router,
-        next,
-    }
+    };
+    Some(Entry { route, next })
 }
 
-// A reader at the first place of the data (document 02, request 14).
-pub fn begin<'a>(list: &'a [u8]) -> RouteReader<'a>
-    ensures { (result.list ≡ list.entry) × (result.at ≡ 0) }
-{
-    RouteReader { list, at: 0 }
-}
+impl<'a> Iterator for RouteReader<'a> {
+    ghost use Rattle.routes.specs.Walk.{Steps, bytes_left};
 
-// The reader's next route, and the reader moved on, or done (document 02, request 14).
-pub fn step<'a>(reader: RouteReader<'a>) -> Stepped<'a>
-    ensures { result ≡ step_of reader.entry }
-{
-    let c = step_at(reader.list, reader.at);
-    Stepped {
-        reader: RouteReader {
-            list: reader.list,
-            at: c.next,
-        },
-        given: c.given,
-        destination: c.destination,
-        width: c.width,
-        router: c.router,
+    type Item = Route;
+
+    ghost next_gives = { Steps };
+
+    ghost remaining = { bytes_left };
+
+    // The reader's next route, and the reader moved on; or none, and the reader stays where it is (document 02, request 14).
+    fn next(&mut self) -> Option<Route> {
+        let entry = step_at(self.list, self.at)?;
+        self.at = entry.next;
+        Some(entry.route)
     }
 }
 
 // The statements of specs/ hold.
 pub fn proved()
-    ensures { ReaderGivesTheRoutes × CursorKeepsTheStep × DoneGivesNothing }
+    ensures { ReaderGivesTheRoutes × EntryKeepsTheStep × DoneGivesNothing }
 {}

@@ -1,12 +1,10 @@
 -- What the functions below `judge` are held to. No public contract rests on it. Assumes nothing.
-use Rattle.std.specs.Prelude.{Bool, cond, List, [], ◌∷◌, ℕ, ◌+◌, ◌-◌, ◌*◌, ◌/◌, length, take, drop, eqb, ltb}
+use Rattle.std.specs.Prelude.{◌≡◌, ◌≤◌, Bool, cond, List, [], ◌∷◌, ℕ, ◌+◌, ◌-◌, ◌*◌, ◌/◌, eqb, ltb, Option, Some, None, Result, Ok, Err}
 use Rattle.options.specs.Reading.{either, among}
 use Rattle.kinds.specs.Numbers.{fault_of}
-use Rattle.sheet.specs.Judge.{faulty_at, sound_with}
-use Rattle.sheet.specs.declared.Judged.{Judged}
-use Rattle.sheet.specs.declared.Tags.{Tags}
-use Rattle.sheet.specs.declared.Low.{Low}
-use Rattle.sheet.specs.declared.High.{High}
+use Rattle.refusal.specs.Refused.{number_of}
+use Rattle.refusal.specs.declared.Refusal.{Refusal}
+use Rattle.sheet.specs.Judge.{Verdict, faulty_at, sound_with}
 
 -- 10: "tag is 0, 52 or 255"
 abbrev pub no_tags : List ℕ
@@ -43,17 +41,15 @@ one_after_value one c = either (eqb c 1) one
 abbrev pub relay_after_value : ℕ → ℕ → ℕ → (more : Bool) → ℕ
 relay_after_value relay c here more = cond (eqb c 82) (cond (eqb relay 0) (cond more here 0) relay) relay
 
--- the first two
-abbrev pub tags_after_value : ℕ → Bool → ℕ → ℕ → Tags
-tags_after_value three one c here = record { three = three_after_value three one c here; one = one_after_value one c }
+-- a place as the last definitions have it, counted from 1, and 0 for none
+abbrev pub counted : Option ℕ → ℕ
+counted None = 0
+counted (Some p) = p + 1
 
--- the record with tag c and n bytes of data at a place of the sheet s: the number of the rule on its data that it breaks, or 0, and what was then met of tags 3 and 1
-abbrev pub low_of : List ℕ → ℕ → ℕ → ℕ → ℕ → Bool → Low
-low_of s at n c three one = record { number = fault_of c (take n (drop (at + 3) s)); three = three_after_value three one c (at + 1); one = one_after_value one c }
-
--- or of tag 82
-abbrev pub high_of : List ℕ → ℕ → ℕ → ℕ → ℕ → High
-high_of s at n c relay = record { number = fault_of c (take n (drop (at + 3) s)); relay = relay_after_value relay c (at + 1) (ltb (at + (3 + n)) (length s)) }
+-- by a record that stands at `at`, and whose data breaks a rule with number k, or none with 0, the sheet is refused at it, or what is then met has the property
+abbrev pub Tells : {A : Type 0} → (k at : ℕ) → (A → Type 0) → Result A Refusal → Type 0
+Tells k at Met (Ok x) = (k ≡ 0) × Met x
+Tells k at Met (Err r) = (number_of r.rule ≡ k) × ((1 ≤ k) × (r.place ≡ at))
 
 -- what is counted of the records: the bytes of the options, where each record before is counted so and each one behind by its own bytes; and the place
 -- of the first that was several pieces, or the sheet's end; beside them, what was met of tag 82
@@ -68,9 +64,9 @@ sums_after len x at c n =
     record { total = x.total + further n - 1; single = cond (ltb 255 n) (lower at x.single) x.single; relay = relay_after_value x.relay c (at + 1) (ltb (at + (3 + n)) len) }
 
 -- 23: "82 not last, at its tag"
-abbrev pub last_of : Sums → Judged
+abbrev pub last_of : Sums → Verdict
 last_of x = cond (eqb x.relay 0) (sound_with x.total x.single) (faulty_at 23 (x.relay - 1))
 
 -- 14: "tag 3 stands before tag 1; tag 3's byte"; 23 "after 14"
-abbrev pub order_of : ℕ → Bool → Sums → Judged
+abbrev pub order_of : ℕ → Bool → Sums → Verdict
 order_of three one x = cond one (cond (eqb three 0) (last_of x) (faulty_at 14 (three - 1))) (last_of x)

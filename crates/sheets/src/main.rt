@@ -5,7 +5,7 @@ mod names;
 mod print;
 
 use std::io;
-use std::io::{Stdin, Stdout};
+use std::io::Stdout;
 
 // The lines of one sheet.
 fn one(to: Stdout, sheet: &[u8], buf: &mut [u8], permission: u8) -> io::Result<()> {
@@ -16,36 +16,21 @@ fn one(to: Stdout, sheet: &[u8], buf: &mut [u8], permission: u8) -> io::Result<(
         print::refused(to, w.refusal, w.place, buf)?;
     }
     names::written(to, sheet, buf.len(), permission, w)?;
-    console::word(to, b"-\n")
-}
-
-// Reads one case and prints its lines; false at the end of the input.
-fn next(from: Stdin, to: Stdout) -> io::Result<bool> {
-    let mut name = [0u8; 1];
-    let mut sheet = [0u8; 5000];
-    let mut buf = [0u8; 1600];
-    let c = console::next(from, &mut name, &mut sheet, &mut buf)?;
-    if !c.there {
-        return Ok(false);
-    }
-    let room = c.room;
-    one(
-        to,
-        message::part(&sheet, 0, c.size),
-        &mut buf[..room],
-        c.call,
-    )?;
-    Ok(true)
+    println!(to; "-")
 }
 
 // At most 2,000 cases are read.
 fn main(rt: HostRuntime) -> io::Result<()> {
-    let mut left: usize = 2000;
-    while left > 0 {
-        if !next(rt.stdin(), rt.stdout())? {
-            break;
-        }
-        left = left - 1;
-    }
-    Ok(())
+    let mut name = [0u8; 1];
+    let mut sheet = [0u8; 5000];
+    let mut buf = [0u8; 1600];
+    let to = rt.stdout();
+    console::each(
+        rt.stdin(),
+        2000,
+        &mut name,
+        &mut sheet,
+        &mut buf,
+        |permission, _name, sheet, buf| one(to, sheet, buf, permission),
+    )
 }

@@ -1,35 +1,16 @@
 // The writer's answer as Rattle names it, compared with that for C. A line with a question mark is printed where they differ, so that the output is another.
-use console::word;
 use dhcpopt_writer::PlainWrote;
 use plan::Choice;
+use refusal::Refusal;
 use std::io;
 use std::io::Stdout;
 
-fn same_plan(plan: u8, w: PlainWrote) -> bool {
-    if w.refusal != 0 {
-        return false;
-    }
-    if w.place != 0 {
-        return false;
-    }
-    plan as u32 == w.plan
-}
-
-fn same_refusal(number: u32, place: usize, w: PlainWrote) -> bool {
-    if w.refusal != number {
-        return false;
-    }
-    if w.plan != 0 {
-        return false;
-    }
-    w.place == place
-}
-
-fn same(c: Choice, w: PlainWrote) -> bool {
-    match c {
-        Choice::Plan { plan, single: _ } => same_plan(plan, w),
-        Choice::Refused { number, place } => same_refusal(number, place, w),
-    }
+fn same(c: Result<Choice, Refusal>, w: PlainWrote) -> bool {
+    let (refusal, place, plan) = match c {
+        Ok(Choice { plan, single: _ }) => (0, 0, u32::from(plan)),
+        Err(Refusal { rule, place }) => (rule.number(), place, 0),
+    };
+    (w.refusal, w.place, w.plan) == (refusal, place, plan)
 }
 
 // Writes the sheet once more, by the library's own call, into a buffer of that length.
@@ -40,13 +21,12 @@ pub fn written(
     permission: u8,
     w: PlainWrote,
 ) -> io::Result<()> {
-    let mut buffer = [0u8; 1600];
-    if 1600 < length {
+    let mut buffer = [0; 1600];
+    let Some(lent) = buffer.get_mut(..length) else {
         return Ok(());
-    }
-    let c = writer::write(sheet, &mut buffer[..length], permission);
-    if !same(c, w) {
-        word(to, b"names?\n")?;
+    };
+    if !same(writer::write(sheet, lent, permission), w) {
+        println!(to; "names?")?;
     }
     Ok(())
 }

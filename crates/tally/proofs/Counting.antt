@@ -1,5 +1,5 @@
 -- The options of a message counted one after another. Assumes nothing.
-use Rattle.std.proofs.Common.{◌≡◌, ℕ, zero, suc, ◌+◌, ◌/◌, ◌%◌, ◌^◌, ◌<◌, Bool, true, false, cond, eqb, List, [], ◌∷◌, length, get_or, sym, refl, ap, ◌∙◌, arith, length-append, length-set, eq-eqb, ne_eqb}
+use Rattle.std.proofs.Common.{◌≡◌, ℕ, zero, suc, ◌+◌, ◌/◌, ◌%◌, ◌^◌, ◌<◌, ◌≤◌, Option, Some, None, Bool, true, false, cond, eqb, List, [], ◌∷◌, length, get_or, sym, refl, ap, ◌∙◌, arith, length-append, length-set, eq-eqb, ne_eqb}
 use native.Mathlib.Decide.{ℕ_discrete}
 use native.Mathlib.Nat.{zero-div}
 use Rattle.options.specs.Message.{Opt, end_to_end}
@@ -9,8 +9,8 @@ use Rattle.options.specs.Captures.{one_if_any}
 use Rattle.codeset.proofs.Words.{mark_same, mark_other}
 use Rattle.message.specs.Active.{active_options}
 use Rattle.records.specs.FieldRecords.{ActiveEnds}
-use Rattle.records.specs.Places.{Stands, left_at, Goes}
-use Rattle.records.proofs.Places.{stands_first, left_first, at_pad}
+use Rattle.records.specs.Places.{Stands, left_at, bytes_left, Goes, field_at, next_place_value, some_place}
+use Rattle.records.proofs.Places.{stands_first, left_first, at_pad, option_in_lem, option_stands, option_at, option_left, option_less, option_size, end_none, end_next}
 use Rattle.tally.specs.Noted.{Raises, only_at, end_marks_value, Reaches, CountsOptions}
 
 -- a code was met: 0 and 255 are no codes, and are marked from the start on
@@ -243,3 +243,74 @@ module _ {v : ℕ} {m held₀ bytes₀ met held bytes : List ℕ} {i : ℕ} (s :
       none : (c : ℕ) (t : Bool) → cond t 0 (one_if_any (pieces c (left_at v m i))) ≡ 0
       none c true = refl
       none c false = rw e refl
+
+-- ---- where the walk goes on: behind an option with n bytes of data
+
+module _ {v : ℕ} {m held₀ bytes₀ met held bytes : List ℕ} {i : ℕ} (s : Counting v m held₀ bytes₀ met held bytes i) (n : ℕ) (q : n ≡ get_or m (i + 1) 0) where
+  abbrev code : ℕ
+  code = get_or m i 0
+
+  -- of which the code is met first
+  module _ (u : marked met code ≡ false) where
+    pub first_within : i + 2 + n ≤ length m
+    first_within = option_in_lem v m s.stands (no_pad s code u) (no_end s code u) n (i + 2 + n) q refl
+
+    pub first_less : bytes_left m (i + 2 + n) < bytes_left m i
+    first_less = option_less v m s.stands (no_pad s code u) (no_end s code u) n (i + 2 + n) q refl
+
+    pub first_on : code < 256 → (held' bytes' : List ℕ) → Raises (only_at code 1) held held' → Raises (only_at code n) bytes bytes' → Counting v m held₀ bytes₀ (with_mark met code) held' bytes' (i + 2 + n)
+    first_on l held' bytes' h b =
+        counting_first s
+        (option_at v m s.stands (no_pad s code u) (no_end s code u) n (i + 2 + n) q refl)
+        (option_stands v m s.stands (no_pad s code u) (no_end s code u) n (i + 2 + n) q refl)
+        (option_left v m s.stands (no_pad s code u) (no_end s code u) n (i + 2 + n) q refl)
+        n
+        (option_size v m s.stands (no_pad s code u) (no_end s code u) n (i + 2 + n) q refl)
+        bytes' b l u held' h
+
+  -- of which the code was met before
+  module _ (z : code ≡ 0 → ⊥) (e : code ≡ 255 → ⊥) where
+    pub further_within : i + 2 + n ≤ length m
+    further_within = option_in_lem v m s.stands z e n (i + 2 + n) q refl
+
+    pub further_less : bytes_left m (i + 2 + n) < bytes_left m i
+    further_less = option_less v m s.stands z e n (i + 2 + n) q refl
+
+    pub further_on : marked met code ≡ true → (bytes' : List ℕ) → Raises (only_at code n) bytes bytes' → Counting v m held₀ bytes₀ met held bytes' (i + 2 + n)
+    further_on u bytes' b =
+        counting_further s
+        (option_at v m s.stands z e n (i + 2 + n) q refl)
+        (option_stands v m s.stands z e n (i + 2 + n) q refl)
+        (option_left v m s.stands z e n (i + 2 + n) q refl)
+        n
+        (option_size v m s.stands z e n (i + 2 + n) q refl)
+        bytes' b u z e
+
+-- ---- and behind the END of a field
+
+none_some : (p r : ℕ) → ◌≡◌ {A = Option ℕ} None (Some r) → ⊥
+none_some p r e = let y : ◌≡◌ {A = ℕ} 0 1 = cc in omega arith
+
+no_place : (p : ℕ) → some_place p ≡ None → p ≡ 0
+no_place p e = by (ℕ_discrete p 0)
+  where
+    by : Dec (p ≡ 0) → p ≡ 0
+    by (yes z) = z
+    by (no z) = absurd (none_some p p (sym (rw (ne_eqb p 0 z) at e)))
+
+a_place : (p r : ℕ) → some_place p ≡ Some r → (r ≡ p) × (p ≡ 0 → ⊥)
+a_place p r e = by (ℕ_discrete p 0)
+  where
+    by : Dec (p ≡ 0) → (r ≡ p) × (p ≡ 0 → ⊥)
+    by (yes z) = absurd (none_some p r (rw (eq-eqb p 0 z) at e))
+    by (no z) = let q : ◌≡◌ {A = Option ℕ} (Some p) (Some r) = rw (ne_eqb p 0 z) at e in let y : r ≡ p = cc in (y, z)
+
+module _ {v : ℕ} {m held₀ bytes₀ met held bytes : List ℕ} {i : ℕ} (s : Counting v m held₀ bytes₀ met held bytes i) (e : get_or m i 0 ≡ 255) where
+  abbrev next : ℕ
+  next = next_place_value v (field_at i)
+
+  pub ends_here : some_place next ≡ None → CountsOptions (active_options v m) held₀ held bytes₀ bytes
+  ends_here q = counting_ends s (end_none v m s.stands e next refl (no_place next q))
+
+  pub next_field : (r : ℕ) → some_place next ≡ Some r → ActiveEnds v m → Goes v m i r
+  next_field r q a = let p = a_place next r q in end_next v m s.stands e r p.0 a (λ z. p.1 (sym p.0 ∙ z))

@@ -23,13 +23,9 @@ pub fn put_word(out: &mut [u8], at: usize, word: &[u8]) -> usize
     if out.len() <= at {
         return at;
     }
-    let room = out.len() - at;
-    if room < word.len() {
-        buffer::copy(&mut out[at..], &word[..room]);
-        return at + room;
-    }
-    buffer::copy(&mut out[at..], word);
-    at + word.len()
+    let n = word.len().min(out.len() - at);
+    buffer::copy(&mut out[at..], &word[..n]);
+    at + n
 }
 
 // A number in decimal: the digits before the last one, then that one.

@@ -2,17 +2,16 @@
 use mathlib.Core.Path.{◌≡◌, refl, sym, ap, ap₂, ◌∙◌, subst}
 use mathlib.Core.Bool.{Bool, true, false, cond}
 use mathlib.Core.List.{List, [], ◌∷◌, ◌++◌, append-nil}
-use Prim.Native.Nat.{ℕ, zero, suc, ◌+◌, ◌≤◌, ◌<◌}
+use Prim.Native.Nat.{ℕ, zero, suc, ◌+◌, ◌≤◌}
 use native.Mathlib.Omega.{arith}
 use native.Mathlib.Decide.{ℕ_discrete}
 use lib.Dec.{eqb, ltb}
 use lib.ListN.{length, get_or, take, drop, length-append, length-drop}
 use lib.Seq.{drop-drop, length-take-le}
-use borrow.Author.Tests.{eqb-true, eqb-false, eq-eqb, ne_eqb, le-ltb, ltb-false}
-use Rattle.options.specs.Message.{Field, options, file, sname, start, bytes, cookie, shortest, longest, Opt, EndAt, OptionAt, first}
+use borrow.Author.Tests.{eqb-true, ne_eqb, le-ltb, ltb-false}
+use Rattle.options.specs.Message.{Field, options, file, sname, start, bytes, cookie, shortest, longest, Opt, EndAt, first}
 use Rattle.options.specs.Refusals.{When, Row, row_1, row_2, row_3, row_4, row_5, row_6, row_7}
-use Rattle.options.specs.Reading.{Parse, ended, ran_out_value, beyond, found, span, cut, record_of, item_of, parse, Reading, accepted, refused, more, either, wrong52, second52, judge, overload_of, file_in, sname_in, and_then, extend, further, all_fields, same, read_message}
-use Rattle.options.specs.ReadingClaims.{IsAccepted}
+use Rattle.options.specs.Reading.{Parse, ended, ran_out_value, beyond, found, span, cut, record_of, parse, Reading, accepted, refused, more, either, wrong52, second52, judge, overload_of, file_in, sname_in, and_then, extend, further, all_fields, same, read_message}
 use Rattle.options.specs.Trim.{before_end, EndAnswer, ends_at, without_end, end_in, options_end_value}
 use Rattle.options.specs.TrimClaims.{EndPlace, EndsRight, ends, refuses, OptionsEndIsRight, OneEndPlace, BehindEndIsNotRead, CutBehindEnd, CutReadsTheSame}
 use Rattle.theorems.proofs.View.{clash, From, here, pad, past, from_begins, Reads, r_none, r_pad, r_end, r_beyond, r_option, reads}
@@ -20,9 +19,16 @@ use Rattle.theorems.proofs.Fields.{nothing_after_end}
 use Rattle.theorems.proofs.Reading.{refused_by_the_table}
 use Rattle.message.specs.Walking.{unfit_of}
 use Rattle.message.proofs.Readings.{fit_length, read_fit, read_unfit}
-use Rattle.trim.specs.Plain.{plain_end, EndByCase, end_from, EndKept}
+use Rattle.refusal.specs.declared.Refusal.{Refusal}
+use Rattle.refusal.specs.Refused.{number_of}
+use Rattle.std.specs.Prelude.{Ok, Err}
+use Rattle.trim.specs.Plain.{ended_by, plain_end, EndGivenByCase, EndByCase, end_from, EndKept}
+use Rattle.index.proofs.Steps.{refused_stays}
+use Rattle.options.specs.KindClaims.{AllBytes}
+use Rattle.message.specs.Scan.{Scan, scan_of, refused_at}
+use Rattle.message.proofs.Callers.{scan_refused, scan_accepted}
+use Rattle.index.proofs.Built.{rule_not}
 use Rattle.trim.proofs.Steps.{head_end, head_pad, head_option}
-use Rattle.trim.proofs.Whole as fields
 
 -- ---- a field that is accepted has its END
 
@@ -54,6 +60,19 @@ judge_closes fd met (found i x p) os e = go (wrong52 fd x) (second52 met x) (λ 
     go false true h z = clash (cc)
     go false false h z = inner next refl h z
 
+-- options, as the first field that is read
+module _ (m : List ℕ) where
+  abbrev first_read : Reading
+  first_read = judge options false (parse 0 0 (bytes options m))
+
+  all_is : (w : Reading) → first_read ≡ w → all_fields m ≡ further m (and_then [] w)
+  unfolding all_fields
+  all_is w e = ap (λ (x : Reading). further m (and_then [] x)) e
+
+  all_refused : (n p : ℕ) → first_read ≡ refused n p → all_fields m ≡ refused n p
+  all_refused n p e =
+      all_is (refused n p) e ∙ ap (extend (sname_in 0) sname m) (refused_stays (file_in 0) file m n p) ∙ refused_stays (sname_in 0) sname m n p
+
 module _ (m : List ℕ) (os : List Opt) (a : read_message m ≡ accepted os) where
   is_fit : unfit_of m ≡ 0
   is_fit = elim (ℕ_discrete (unfit_of m) 0) [ yes e ↦ e | no d ↦ absurd (not_refused (read_unfit m d)) ]
@@ -62,11 +81,11 @@ module _ (m : List ℕ) (os : List Opt) (a : read_message m ≡ accepted os) whe
       not_refused e = clash (cc)
 
   closes : Closes (parse 0 0 (bytes options m))
-  closes = go (fields.first m) refl
+  closes = go (first_read m) refl
     where
-      go : (w : Reading) → fields.first m ≡ w → Closes (parse 0 0 (bytes options m))
+      go : (w : Reading) → first_read m ≡ w → Closes (parse 0 0 (bytes options m))
       go (accepted ps) e = judge_closes options false (parse 0 0 (bytes options m)) ps e
-      go (refused n p) e = let z : refused n p ≡ accepted os = sym (read_fit m is_fit ∙ fields.all_refused m n p e) ∙ a in clash (cc)
+      go (refused n p) e = let z : refused n p ≡ accepted os = sym (read_fit m is_fit ∙ all_refused m n p e) ∙ a in clash (cc)
 
 -- ---- the place is that of END
 
@@ -333,7 +352,22 @@ cut_behind m os a =
 pub cut_reads_the_same : CutReadsTheSame
 cut_reads_the_same m p e = let t = has_end m p e in subst (CutBehindEnd m) t.is_place (cut_behind m t.os t.is)
 
--- ---- for C
+-- ---- as the code gives it, and for C
+
+-- what the walk over the whole message tells
+module _ (m : List ℕ) (s : Scan) (h : s ≡ scan_of 52 m) where
+  pub end_refused : (r : Refusal) → s ≡ refused_at (number_of r.rule) r.place → ended_by (Err r) ≡ options_end_value m
+  end_refused r e =
+      let q : read_message m ≡ refused (number_of r.rule) r.place = rw e at (scan_refused 52 m s h (λ z. rule_not r.rule (sym (ap (λ (x : Scan). x.number) e) ∙ z))) in
+      sym (end_is m (refused (number_of r.rule) r.place) q)
+
+  pub end_found : AllBytes m → s.number ≡ 0 → ended_by (Ok (240 + before_end 0 (bytes options m))) ≡ options_end_value m
+  end_found b z =
+      let t = scan_accepted 52 m s b h z in
+      sym (end_is m (accepted t.0) t.1.reads)
+
+pub end_given_by_case : EndGivenByCase
+end_given_by_case e = ((λ p. (sym, sym)), (λ r. (sym, sym)))
 
 pub end_by_case : EndByCase
 end_by_case n p = (refl, refl)

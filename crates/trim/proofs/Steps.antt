@@ -1,26 +1,19 @@
--- The walk of a field to its END: one law for each way through it. Assumes nothing.
-use mathlib.Core.Path.{◌≡◌, refl, sym, ap, ap₂, ◌∙◌}
-use mathlib.Core.Bool.{Bool, true, false, not}
+-- The bytes before END, from each offset on. Assumes nothing.
+use mathlib.Core.Path.{◌≡◌, refl, sym, ap, ◌∙◌}
+use mathlib.Core.Bool.{Bool, true, false, cond}
 use mathlib.Core.List.{List, [], ◌∷◌}
+use lib.Dec.{eqb}
+use Rattle.options.specs.Reading.{span}
 use Prim.Native.Nat.{ℕ, zero, suc, ◌+◌, ◌≤◌, ◌<◌}
+use Rattle.std.specs.Prelude.{min}
 use native.Mathlib.Nat.{le_of_suc-le-suc, not-suc-le-zero}
 use native.Mathlib.Omega.{arith}
-use lib.Dec.{eqb}
-use lib.ListN.{length, get_or, take, drop, length-drop}
-use lib.Seq.{drop-cons, drop-drop}
+use native.Mathlib.Decide.{dec_lt}
+use lib.ListN.{length, get_or, drop, length-drop, drop_of_length-le}
+use lib.Seq.{drop-cons, drop-drop, get_or-drop}
 use borrow.Author.Tests.{eq-eqb, ne_eqb}
-use Rattle.options.specs.Message.{Field, start, Rec, Opt}
-use Rattle.options.specs.Reading.{Parse, found, Reading, accepted, refused, more, is_options_value, judge}
 use Rattle.options.specs.Trim.{before_end}
-use Rattle.theorems.proofs.View.{clash}
-use Rattle.wire.specs.Walk.{item_at}
-use Rattle.wire.proofs.Laws.{rest, rest_none, rest_pad, rest_end, rest_last, rest_long, rest_found, two}
-use Rattle.message.specs.Walk.{over_stop_value, over_after_value}
-use Rattle.message.specs.Walking.{number_of}
-use Rattle.index.specs.Filling.{over_from, reading}
-use Rattle.index.proofs.Steps.{over_none, here, judge_stops, judge_passes}
-use Rattle.trim.specs.declared.Seen.{Seen}
-use Rattle.trim.specs.Ending.{seen_on, seen_end, seen_refused, seen_of, seen_from, LooksAt}
+use Rattle.wire.proofs.Laws.{two}
 
 -- ---- the bytes before END
 
@@ -60,89 +53,74 @@ module _ (f : List ℕ) (i : ℕ) (h : i < length f) where
       ap (before_end 0) (two f i h z e g) ∙ head_option (get_or f i 0) n (drop (i + 2) f) z e u
       ∙ ap (λ (l : List ℕ). 2 + n + before_end 0 l) (drop-drop n (i + 2) f)
 
--- ---- what is left of a field
+-- an option that runs past the bytes takes all of them
+skip_all : (n : ℕ) (ys : List ℕ) → length ys ≤ n → before_end n ys ≡ length ys
+unfolding before_end
+skip_all zero [] h = refl
+skip_all zero (y ∷ ys) h = absurd (omega arith)
+skip_all (suc n) [] h = refl
+skip_all (suc n) (y ∷ ys) h = ap suc (skip_all n ys (omega arith))
 
-more_seen : (o : Opt) (w : Reading) (over over' e : ℕ) → ((os : List Opt) → over_from over' os ≡ over_from over (o ∷ os)) → seen_of over' w e ≡ seen_of over (more o w) e
-more_seen o (accepted os) over over' e h = ap (seen_end e) (h os)
-more_seen o (refused n p) over over' e h = refl
+cut_head : (x : ℕ) (xs : List ℕ) → (x ≡ 0 → ⊥) → (x ≡ 255 → ⊥) → length xs ≤ suc (get_or xs 0 0) → before_end 0 (x ∷ xs) ≡ suc (length xs)
+unfolding before_end
+cut_head x xs z e h = rw (ne_eqb x 255 e, ne_eqb x 0 z) (ap suc (skip_all (suc (get_or xs 0 0)) xs h))
 
-module _ (fd : Field) (f : List ℕ) (i over : ℕ) where
-  looks_on : (j over' : ℕ) → i < j → j ≤ length f → seen_from fd f over' j ≡ seen_from fd f over i → LooksAt fd f i over (seen_on j over')
-  looks_on j over' l u e = record { further = λ z. (l, u); ends = λ z. clash (cc); goes_on = λ z. e }
+-- END stands within the field, or there is none
+pub before_short : (k : ℕ) (xs : List ℕ) → before_end k xs ≤ length xs
+unfolding before_end
+before_short zero [] = omega arith
+before_short zero (b ∷ bs) = go (eqb b 255) (before_short (span b bs) bs)
+  where
+    go : (t : Bool) → before_end (span b bs) bs ≤ length bs → cond t 0 (suc (before_end (span b bs) bs)) ≤ suc (length bs)
+    go true h = omega arith
+    go false h = omega arith
+before_short (suc k) [] = omega arith
+before_short (suc k) (b ∷ bs) = omega (arith, before_short k bs)
 
-  looks_ended : (r : Seen) → r.done ≡ true → r ≡ seen_from fd f over i → LooksAt fd f i over r
-  looks_ended r d e = record { further = λ z. clash (cc); ends = λ z. e; goes_on = λ z. clash (cc) }
+-- ---- the loop
 
-  refused_here : (n p : ℕ) → reading fd f over i ≡ refused n p → seen_refused n p ≡ seen_from fd f over i
-  refused_here n p e = sym (ap (λ (w : Reading). seen_of over w (i + before_end 0 (drop i f))) e)
+-- what is left from the offset i on adds to it what the whole has
+pub record Comes (f : List ℕ) (i : ℕ) : Type 0 where
+  pub at_in : i ≤ length f
+  pub same : i + before_end 0 (drop i f) ≡ before_end 0 f
 
-  -- no byte is left
-  pub at_none : length f ≡ i → seen_refused 5 (start fd + i) ≡ seen_from fd f over i
-  unfolding judge
-  at_none h = refused_here 5 (start fd + i) (ap (judge fd (not (eqb over 0))) (rest_none f i (omega arith)))
+pub comes_first : (f : List ℕ) → Comes f 0
+comes_first f = record { at_in = omega arith; same = omega arith }
+
+module _ {f : List ℕ} {i : ℕ} (y : Comes f i) where
+  pub comes_out : length f ≤ i → i ≡ before_end 0 f
+  unfolding before_end
+  comes_out h =
+      let b : before_end 0 (drop i f) ≡ 0 = ap (before_end 0) (drop_of_length-le f h) in
+      omega (arith, y.same, b)
 
   module _ (h : i < length f) where
-    pub look_pad : get_or f i 0 ≡ 0 → LooksAt fd f i over (seen_on (i + 1) over)
-    look_pad e =
-        let q : i + 1 + before_end 0 (drop (i + 1) f) ≡ i + before_end 0 (drop i f) = omega (arith, pad_before f i h e) in
-        looks_on (i + 1) over (omega arith) (omega arith) (ap₂ (seen_of over) (sym (ap (judge fd (not (eqb over 0))) (rest_pad f i h e))) q)
+    pub comes_end : get_or f i 0 ≡ 255 → i ≡ before_end 0 f
+    comes_end e = omega (arith, y.same, end_before f i h e)
 
-    pub look_end : get_or f i 0 ≡ 255 → LooksAt fd f i over (seen_end i over)
-    unfolding judge
-    look_end e =
-        let q : i ≡ i + before_end 0 (drop i f) = omega (arith, end_before f i h e) in
-        looks_ended (seen_end i over) refl
-        (ap₂ seen_end q (over_none over) ∙ sym (ap (λ (w : Reading). seen_of over w (i + before_end 0 (drop i f))) (ap (judge fd (not (eqb over 0))) (rest_end f i h e))))
-
-    refuses : (n p : ℕ) → reading fd f over i ≡ refused n p → LooksAt fd f i over (seen_refused n p)
-    refuses n p e = looks_ended (seen_refused n p) refl (refused_here n p e)
+    pub comes_pad : get_or f i 0 ≡ 0 → Comes f (i + 1)
+    comes_pad e = record { at_in = omega arith; same = omega (arith, y.same, pad_before f i h e) }
 
     module _ (z : get_or f i 0 ≡ 0 → ⊥) (e : get_or f i 0 ≡ 255 → ⊥) where
-      pub look_last : length f < i + 2 → LooksAt fd f i over (seen_refused 4 (start fd + i))
-      unfolding judge
-      look_last l = refuses 4 (start fd + i) (ap (judge fd (not (eqb over 0))) (rest_last f i h z e (omega arith)))
+      cut_before : length f < i + 2 + get_or f (i + 1) 0 → before_end 0 (drop i f) + i ≡ length f
+      cut_before l =
+          let q : suc i ≡ i + 1 = omega arith in
+          let n : get_or (drop (suc i) f) 0 0 ≡ get_or f (i + 1) 0 = get_or-drop (suc i) f 0 0 ∙ ap (λ (k : ℕ). get_or f k 0) (let w : suc i + 0 ≡ i + 1 = omega arith in w) in
+          let k : length (drop (suc i) f) ≤ suc (get_or (drop (suc i) f) 0 0) = omega (arith, length-drop (suc i) f, n) in
+          let b : before_end 0 (drop i f) ≡ suc (length (drop (suc i) f)) = ap (before_end 0) (drop-cons f i 0 h) ∙ cut_head (get_or f i 0) (drop (suc i) f) z e k in
+          omega (arith, b, length-drop (suc i) f)
 
-      module _ (g : i + 2 ≤ length f) (n : ℕ) (q : n ≡ get_or f (i + 1) 0) where
-        l_of : i + 1 < length f
-        l_of = omega arith
-
-        pub look_long : length f < i + 2 + n → LooksAt fd f i over (seen_refused 4 (start fd + i))
-        unfolding judge
-        look_long l = refuses 4 (start fd + i) (ap (judge fd (not (eqb over 0))) (rest_long f i h z e l_of (omega (arith, q))))
-
-        abbrev body : List ℕ
-        body = take n (drop (i + 2) f)
-
-        body_is : body ≡ take (get_or f (i + 1) 0) (drop (i + 2) f)
-        body_is = ap (λ (x : ℕ). take x (drop (i + 2) f)) q
-
-        module _ (l : i + 2 + n ≤ length f) where
-          fits : i + 2 + get_or f (i + 1) 0 ≤ length f
-          fits = omega (arith, q)
-
-          abbrev item : Rec
-          item = item_at (get_or f i 0) (get_or f (i + 1) 0) f i
-
-          abbrev onward : Parse
-          onward = rest f (i + 2 + get_or f (i + 1) 0)
-
-          found_is : reading fd f over i ≡ judge fd (not (eqb over 0)) (found i item onward)
-          found_is = ap (judge fd (not (eqb over 0))) (rest_found f i h z e l_of fits)
-
-          pub look_stop : (s : ℕ) → s ≡ over_stop_value (is_options_value fd) over (get_or f i 0) body → (s ≡ 0 → ⊥) → LooksAt fd f i over (seen_refused (number_of s) (start fd + i))
-          look_stop s w d =
-              let y : s ≡ over_stop_value (is_options_value fd) over (get_or f i 0) item.body = w ∙ ap (over_stop_value (is_options_value fd) over (get_or f i 0)) body_is in
-              refuses (number_of s) (start fd + i)
-              (found_is ∙ judge_stops fd over i item onward (λ k. d (y ∙ k)) ∙ ap (λ (k : ℕ). refused (number_of k) (start fd + i)) (sym y))
-
-          pub look_option : over_stop_value (is_options_value fd) over (get_or f i 0) body ≡ 0 → LooksAt fd f i over (seen_on (i + 2 + n) (over_after_value over (get_or f i 0) body))
-          look_option w =
-              let y : over_stop_value (is_options_value fd) over (get_or f i 0) item.body ≡ 0 = ap (over_stop_value (is_options_value fd) over (get_or f i 0)) (sym body_is) ∙ w in
-              let p = judge_passes fd over i item onward y in
-              let v : ℕ = over_after_value over (get_or f i 0) item.body in
-              let b : i + 2 + get_or f (i + 1) 0 + before_end 0 (drop (i + 2 + get_or f (i + 1) 0) f) ≡ i + before_end 0 (drop i f) = omega (arith, option_before f i h z e l_of fits) in
-              looks_on (i + 2 + n) (over_after_value over (get_or f i 0) body) (omega arith) l
-              (rw (q)
-              (ap (seen_of v (judge fd (not (eqb v 0)) onward)) b
-              ∙ more_seen (here fd over i item onward) (judge fd (not (eqb v 0)) onward) over v (i + before_end 0 (drop i f)) p.over_is
-              ∙ ap (λ (w : Reading). seen_of over w (i + before_end 0 (drop i f))) (sym (found_is ∙ p.more_is))))
+      pub comes_option : (j : ℕ) → j ≡ min (length f) (i + 2 + get_or f (i + 1) 0) → (i < j) × Comes f j
+      unfolding before_end
+      comes_option j q = go (dec_lt (length f) (i + 2 + get_or f (i + 1) 0))
+        where
+          go : Dec (length f < i + 2 + get_or f (i + 1) 0) → (i < j) × Comes f j
+          go (yes l) =
+              let w : j ≡ length f = omega (arith, q, l) in
+              let b : before_end 0 (drop j f) ≡ 0 = ap (before_end 0) (drop_of_length-le f (omega (arith, w))) in
+              (omega (arith, w), record { at_in = omega (arith, w); same = omega (arith, y.same, cut_before l, w, b) })
+          go (no l) =
+              let w : j ≡ i + 2 + get_or f (i + 1) 0 = omega (arith, q, l) in
+              let b : before_end 0 (drop i f) ≡ 2 + get_or f (i + 1) 0 + before_end 0 (drop j f) =
+              option_before f i h z e (omega (arith, l)) (omega (arith, l)) ∙ ap (λ (k : ℕ). 2 + get_or f (i + 1) 0 + before_end 0 (drop k f)) (sym w) in
+              (omega (arith, w), record { at_in = omega (arith, w, l); same = omega (arith, y.same, b, w) })

@@ -9,11 +9,7 @@ use std::io::Stdout;
 fn lay(m: &mut [u8], at: usize, src: &[u8])
     requires { at + length src.now ≤ length m.old }
 {
-    let mut i: usize = 0;
-    while i < src.len() {
-        m[at + i] = src[i];
-        i = i + 1;
-    }
+    m[at..at + src.len()].copy_from_slice(src);
 }
 
 // Options 12, 3, 53, 6, 4, 15, 120 and 52, and 51 in file; 53, 6 and 4 are broken.
@@ -36,120 +32,92 @@ pub fn message() -> [u8; 300] {
 
 // Lookups of 0 and 255, of an absent code, and with known sets that leave codes out.
 fn lookups(to: Stdout, m: &[u8]) -> io::Result<()> {
-    let none = [0u64; 4];
-    let only_12 = [4096u64, 0, 0, 0];
-    print::line(to, m, ALL, 0)?;
-    print::line(to, m, ALL, 255)?;
-    print::line(to, m, ALL, 50)?;
-    print::line(to, m, none, 0)?;
-    print::line(to, m, none, 12)?;
-    print::line(to, m, none, 50)?;
-    print::line(to, m, only_12, 12)?;
-    print::line(to, m, only_12, 3)?;
-    print::line(to, m, only_12, 53)?;
-    print::line(to, m, only_12, 120)?;
-    print::line(to, m, only_12, 51)
+    for code in [0, 255, 50] {
+        print::line(to, m, ALL, code)?;
+    }
+    for code in [0, 12, 50] {
+        print::line(to, m, [0; 4], code)?;
+    }
+    for code in [12, 3, 53, 120, 51] {
+        print::line(to, m, [1 << 12, 0, 0, 0], code)?;
+    }
+    Ok(())
 }
 
 // Data of known, broken, rowless and absent codes.
 fn data(to: Stdout, m: &[u8]) -> io::Result<()> {
-    print::data(to, m, 12)?;
-    print::data(to, m, 53)?;
-    print::data(to, m, 120)?;
-    print::data(to, m, 52)?;
-    print::data(to, m, 51)?;
-    print::data(to, m, 50)?;
-    print::data(to, m, 0)?;
-    print::data(to, m, 255)
+    for code in [12, 53, 120, 52, 51, 50, 0, 255] {
+        print::data(to, m, code)?;
+    }
+    Ok(())
 }
 
 // Text, and codes that have none.
 fn texts(to: Stdout, m: &[u8]) -> io::Result<()> {
-    let none = [0u64; 4];
-    print::text(to, m, ALL, 12)?;
-    print::text(to, m, ALL, 15)?;
-    print::text(to, m, ALL, 53)?;
-    print::text(to, m, ALL, 50)?;
-    print::text(to, m, ALL, 0)?;
-    print::text(to, m, none, 12)
+    for code in [12, 15, 53, 50, 0] {
+        print::text(to, m, ALL, code)?;
+    }
+    print::text(to, m, [0; 4], 12)
 }
 
 // Two addresses; one and two bytes left over; three bytes alone; nothing.
 fn walks(to: Stdout, m: &[u8]) -> io::Result<()> {
-    print::addresses(to, m, 3)?;
-    print::addresses(to, m, 4)?;
-    print::addresses(to, m, 6)?;
-    print::addresses(to, m, 50)
+    for code in [3, 4, 6, 50] {
+        print::addresses(to, m, code)?;
+    }
+    Ok(())
 }
 
 // The same by a reader.
 fn reader_walks(to: Stdout, m: &[u8]) -> io::Result<()> {
-    print::steps(to, m, 3)?;
-    print::steps(to, m, 4)?;
-    print::steps(to, m, 6)?;
-    print::steps(to, m, 50)
+    for code in [3, 4, 6, 50] {
+        print::steps(to, m, code)?;
+    }
+    Ok(())
 }
 
 // The records of the message take 53 bytes: one sheet holds them, one is too small.
 fn sheets(to: Stdout, m: &[u8]) -> io::Result<()> {
-    let mut sheet = [0u8; 53];
-    let mut small = [0u8; 52];
-    print::records(to, m, &mut sheet)?;
-    print::records(to, m, &mut small)
+    print::records(to, m, &mut [0; 53])?;
+    print::records(to, m, &mut [0; 52])
 }
 
 // Copies of codes in one piece, in options and in file, into just enough room; too little; of an absent code; of 0 and 255.
-fn copies(to: Stdout, m: &[u8], three: &mut [u8], eight: &mut [u8]) -> io::Result<()> {
-    print::copy(to, m, 12, three)?;
-    print::copy(to, m, 3, eight)?;
-    print::copy(to, m, 51, eight)?;
-    print::copy(to, m, 51, three)?;
-    print::copy(to, m, 50, eight)?;
-    print::copy(to, m, 0, eight)?;
-    print::copy(to, m, 255, eight)
+fn copies(to: Stdout, m: &[u8]) -> io::Result<()> {
+    print::copy(to, m, 12, &mut [0; 3])?;
+    print::copy(to, m, 3, &mut [0; 8])?;
+    print::copy(to, m, 51, &mut [0; 8])?;
+    print::copy(to, m, 51, &mut [0; 3])?;
+    for code in [50, 0, 255] {
+        print::copy(to, m, code, &mut [0; 8])?;
+    }
+    Ok(())
 }
 
-fn copied(to: Stdout, m: &[u8]) -> io::Result<()> {
-    let mut three = [0u8; 3];
-    let mut eight = [0u8; 8];
-    copies(to, m, &mut three, &mut eight)
-}
-
-// A refused message; 10 comes before that.
-fn refusals(to: Stdout, m: &[u8], sheet: &mut [u8]) -> io::Result<()> {
-    print::line(to, m, ALL, 12)?;
-    print::line(to, m, ALL, 0)?;
-    print::data(to, m, 12)?;
-    print::text(to, m, ALL, 12)?;
-    print::present(to, dhcpopt_reader::dhcpopt_present(m))?;
-    print::records(to, m, sheet)?;
-    print::copy(to, m, 12, sheet)?;
-    print::copy(to, m, 0, sheet)
-}
-
-// A message of 240 zeros is refused for its cookie.
+// A message of 240 zeros is refused for its cookie; 10 comes before that.
 fn refused(to: Stdout) -> io::Result<()> {
-    let m = [0u8; 240];
-    let mut sheet = [0u8; 9];
-    refusals(to, &m, &mut sheet)
+    let m = [0; 240];
+    print::line(to, &m, ALL, 12)?;
+    print::line(to, &m, ALL, 0)?;
+    print::data(to, &m, 12)?;
+    print::text(to, &m, ALL, 12)?;
+    print::present(to, dhcpopt_reader::dhcpopt_present(&m))?;
+    print::records(to, &m, &mut [0; 9])?;
+    print::copy(to, &m, 12, &mut [0; 9])?;
+    print::copy(to, &m, 0, &mut [0; 9])
 }
 
-// The calls on one message, with those on a refused one; then those of an index.
-fn calls(to: Stdout, m: &[u8]) -> io::Result<()> {
-    lookups(to, m)?;
-    data(to, m)?;
-    texts(to, m)?;
-    walks(to, m)?;
-    sheets(to, m)?;
-    copied(to, m)?;
-    refused(to)?;
-    reader_walks(to, m)?;
-    indexes::lines(to, m)
-}
-
-// The lines after the cases.
+// The lines after the cases: the calls on one message, with those on a refused one; then those of an index.
 pub fn lines(to: Stdout) -> io::Result<()> {
-    console::word(to, b"extra\n")?;
+    println!(to; "extra")?;
     let m = message();
-    calls(to, &m)
+    lookups(to, &m)?;
+    data(to, &m)?;
+    texts(to, &m)?;
+    walks(to, &m)?;
+    sheets(to, &m)?;
+    copies(to, &m)?;
+    refused(to)?;
+    reader_walks(to, &m)?;
+    indexes::lines(to, &m)
 }

@@ -4,58 +4,32 @@ use std::io;
 use std::io::Stdout;
 
 // The entries of the codes of the message, of an absent one, and of 0 and 255.
-fn entries(to: Stdout, index: [u16; 256]) -> io::Result<()> {
-    console::word(to, b"entries")?;
-    console::number(to, index[12] as u64)?;
-    console::number(to, index[3] as u64)?;
-    console::number(to, index[53] as u64)?;
-    console::number(to, index[15] as u64)?;
-    further(to, index)
-}
-
-fn further(to: Stdout, index: [u16; 256]) -> io::Result<()> {
-    console::number(to, index[120] as u64)?;
-    console::number(to, index[52] as u64)?;
-    console::number(to, index[51] as u64)?;
-    console::number(to, index[50] as u64)?;
-    console::number(to, index[0] as u64)?;
-    console::number(to, index[255] as u64)?;
-    console::word(to, b"\n")
+fn entries(to: Stdout, index: &[u16; 256]) -> io::Result<()> {
+    print!(to; "entries")?;
+    for code in [12u8, 3, 53, 15, 120, 52, 51, 50, 0, 255] {
+        print!(to; " {}", index[usize::from(code)])?;
+    }
+    println!(to;)
 }
 
 // The index of the same bytes.
 fn fresh(to: Stdout, m: &[u8]) -> io::Result<()> {
-    let mut index = [7u16; 256];
+    let mut index = [7; 256];
     print::build(to, m, &mut index)?;
-    entries(to, index)?;
-    looked_up(to, m, &index)?;
-    known_or_not(to, m, &index)
-}
-
-fn looked_up(to: Stdout, m: &[u8], index: &[u16]) -> io::Result<()> {
-    print::through(to, m, index, ALL, 0)?;
-    print::through(to, m, index, ALL, 255)?;
-    print::through(to, m, index, ALL, 50)?;
-    print::through(to, m, index, ALL, 12)?;
-    print::through(to, m, index, ALL, 53)
-}
-
-fn known_or_not(to: Stdout, m: &[u8], index: &[u16]) -> io::Result<()> {
-    let none = [0u64; 4];
-    print::through(to, m, index, ALL, 6)?;
-    print::through(to, m, index, ALL, 120)?;
-    print::through(to, m, index, ALL, 52)?;
-    print::through(to, m, index, ALL, 51)?;
-    print::through(to, m, index, none, 12)
+    entries(to, &index)?;
+    for code in [0, 255, 50, 12, 53, 6, 120, 52, 51] {
+        print::through(to, m, &index, ALL, code)?;
+    }
+    print::through(to, m, &index, [0; 4], 12)
 }
 
 // The same message but for one byte, which makes 15 a second piece of 12: its own index, and that of the first.
 fn stale(to: Stdout, m: &[u8]) -> io::Result<()> {
     let mut other = extra::message();
     other[271] = 12;
-    let mut index = [7u16; 256];
+    let mut index = [7; 256];
     print::build(to, &other, &mut index)?;
-    entries(to, index)?;
+    entries(to, &index)?;
     print::through(to, &other, &index, ALL, 12)?;
     print::through(to, &other, &index, ALL, 15)?;
     print::build(to, m, &mut index)?;
@@ -65,12 +39,12 @@ fn stale(to: Stdout, m: &[u8]) -> io::Result<()> {
 
 // A lookup of 51 through an index that has a number for it alone.
 fn at(to: Stdout, m: &[u8], entry: u16) -> io::Result<()> {
-    let mut index = [0u16; 256];
+    let mut index = [0; 256];
     index[51] = entry;
     print::through(to, m, &index, ALL, 51)
 }
 
-// No number; the plain walk; 51 in sname, which is inactive, and behind END.
+// No number; the plain walk; 51 in sname, which is inactive, and behind END. The bytes are set one by one: they stand apart, and a list of their places would be no plainer.
 fn used(to: Stdout) -> io::Result<()> {
     let mut m = extra::message();
     m[44] = 51;
@@ -80,15 +54,13 @@ fn used(to: Stdout) -> io::Result<()> {
     m[283] = 51;
     m[284] = 4;
     m[288] = 9;
-    at(to, &m, 0)?;
-    at(to, &m, 65535)?;
-    at(to, &m, 108)?;
-    at(to, &m, 44)?;
-    at(to, &m, 106)?;
-    at(to, &m, 283)
+    for entry in [0, 65535, 108, 44, 106, 283] {
+        at(to, &m, entry)?;
+    }
+    Ok(())
 }
 
-// In no field; another code; length or data past the end of the field.
+// In no field; another code; length or data past the end of the field. The bytes are set one by one here too.
 fn unusable(to: Stdout) -> io::Result<()> {
     let mut m = extra::message();
     m[43] = 51;
@@ -98,24 +70,16 @@ fn unusable(to: Stdout) -> io::Result<()> {
     m[235] = 51;
     m[298] = 51;
     m[299] = 51;
-    at(to, &m, 1)?;
-    at(to, &m, 43)?;
-    at(to, &m, 106)?;
-    at(to, &m, 107)?;
-    at(to, &m, 109)?;
-    at(to, &m, 234)?;
-    at(to, &m, 235)?;
-    at(to, &m, 236)?;
-    at(to, &m, 298)?;
-    at(to, &m, 299)?;
-    at(to, &m, 300)?;
-    at(to, &m, 65534)
+    for entry in [1, 43, 106, 107, 109, 234, 235, 236, 298, 299, 300, 65534] {
+        at(to, &m, entry)?;
+    }
+    Ok(())
 }
 
 // An index of too few numbers, and of too many.
 fn counts(to: Stdout, m: &[u8]) -> io::Result<()> {
-    let mut few = [0u16; 255];
-    let mut many = [0u16; 257];
+    let mut few = [0; 255];
+    let mut many = [0; 257];
     print::build(to, m, &mut few)?;
     print::build(to, m, &mut many)?;
     print::through(to, m, &few, ALL, 12)?;
@@ -125,18 +89,19 @@ fn counts(to: Stdout, m: &[u8]) -> io::Result<()> {
 
 // Refused messages: the numbers stay. 3 comes before 18; without END an entry is used, and only the plain walk is refused.
 fn refused(to: Stdout) -> io::Result<()> {
-    let zeros = [0u8; 240];
-    let mut few = [0u16; 255];
+    let zeros = [0; 240];
+    let mut few = [0; 255];
     print::build(to, &zeros, &mut few)?;
     print::through(to, &zeros, &few, ALL, 12)?;
     let mut m = extra::message();
     m[282] = 0;
-    let mut index = [7u16; 256];
+    let mut index = [7; 256];
     print::build(to, &m, &mut index)?;
-    entries(to, index)?;
-    at(to, &m, 108)?;
-    at(to, &m, 65535)?;
-    at(to, &m, 109)
+    entries(to, &index)?;
+    for entry in [108, 65535, 109] {
+        at(to, &m, entry)?;
+    }
+    Ok(())
 }
 
 pub fn lines(to: Stdout, m: &[u8]) -> io::Result<()> {

@@ -1,6 +1,7 @@
 // The lines of the output, each from the call that it shows. Most calls are those that C links.
-use crate::{names, walk};
-use console::{number, one, sum, two, word};
+use crate::names;
+use address::AddressReader;
+use console::sum;
 use dhcpopt_reader::{PlainAnswer, PlainCodes, PlainExtent};
 use filled::PlainFilled;
 use message::part;
@@ -10,87 +11,92 @@ use std::io::Stdout;
 // The first byte of each lent buffer; the others rise.
 const FIRST: u8 = 160;
 
-// A blank and a name, each in 11 bytes: absent, unknown, refused; the kinds; broken; the fields.
-fn name(to: Stdout, i: u32) -> io::Result<()> {
-    let t = part(
-        b" absent\0\0\0\0 unknown\0\0\0 refused\0\0\0 address\0\0\0 addresses\0 pairs\0\0\0\0\0 flag\0\0\0\0\0\0 octet\0\0\0\0\0 number16\0\0 numbers16\0 unsigned32 signed32\0\0 text\0\0\0\0\0\0 opaque\0\0\0\0 relay\0\0\0\0\0 routes\0\0\0\0 broken\0\0\0\0 options\0\0\0 file\0\0\0\0\0\0 sname\0\0\0\0\0",
-        i as usize * 11,
-        11,
-    );
-    word(to, part(t, 0, kinds::text_len(t)))
-}
-
-// A name from one of those on, by its number there; `?` where none has it.
-fn named(to: Stdout, from: u32, i: u32, most: u32) -> io::Result<()> {
-    if most < i {
-        return word(to, b" ?");
+// The name of a kind, by its number; `?` where none has it.
+fn kind_name(kind: u32) -> &'static str {
+    match kind {
+        1 => "address",
+        2 => "addresses",
+        3 => "pairs",
+        4 => "flag",
+        5 => "octet",
+        6 => "number16",
+        7 => "numbers16",
+        8 => "unsigned32",
+        9 => "signed32",
+        10 => "text",
+        11 => "opaque",
+        12 => "relay",
+        13 => "routes",
+        _ => "?",
     }
-    name(to, from % 32 + i % 16)
 }
 
 // The name of an answer, by its status and its kind.
-fn answer_name(to: Stdout, status: u32, kind: u32) -> io::Result<()> {
-    if status < 3 {
-        return name(to, status);
+fn answer_name(status: u32, kind: u32) -> &'static str {
+    match status {
+        0 => "absent",
+        1 => "unknown",
+        2 => "refused",
+        3 | 4 => kind_name(kind),
+        5 => "broken",
+        _ => "?",
     }
-    if status < 5 {
-        return named(to, 2, kind, 13);
+}
+
+fn field_name(field: u32) -> &'static str {
+    match field {
+        1 => "options",
+        2 => "file",
+        3 => "sname",
+        _ => "?",
     }
-    named(to, 11, status, 5)
 }
 
 // What is answered of an option: its name, and its number, its length, or number and place of what is broken.
 fn content(to: Stdout, a: PlainAnswer) -> io::Result<()> {
-    answer_name(to, a.status, a.kind)?;
-    if a.status == 3 {
-        return console::signed(to, a.number);
+    print!(to; " {}", answer_name(a.status, a.kind))?;
+    match a.status {
+        3 => print!(to; " {}", a.number),
+        5 => print!(to; " {} {}", a.refusal, a.place),
+        _ => print!(to; " {}", a.length),
     }
-    if a.status == 5 {
-        return two(to, b"", a.refusal as usize, a.place);
-    }
-    number(to, a.length as u64)
 }
 
 // An answer: absent, refused, or what is answered of an option and where that stands.
 fn answer(to: Stdout, a: PlainAnswer) -> io::Result<()> {
-    if a.status == 0 {
-        return name(to, 0);
+    match a.status {
+        0 => print!(to; " absent"),
+        2 => print!(to; " refused {} {}", a.refusal, a.place),
+        _ => {
+            content(to, a)?;
+            print!(to; " {} {} {}", field_name(a.field), a.offset, a.start)?;
+            if a.several == 1 {
+                print!(to; " several {}", a.whole)?;
+            }
+            Ok(())
+        }
     }
-    if a.status == 2 {
-        name(to, 2)?;
-        return two(to, b"", a.refusal as usize, a.place);
-    }
-    content(to, a)?;
-    named(to, 16, a.field, 3)?;
-    two(to, b"", a.offset, a.start)?;
-    if a.several == 1 {
-        one(to, b" several", a.whole as u64)?;
-    }
-    Ok(())
 }
 
 // What a call gave of a lent buffer: how many bytes, and their sum; or the refusal. Then the sum of the bytes behind those, which is of the whole buffer on a refusal.
 fn given(to: Stdout, g: PlainFilled, buffer: &[u8]) -> io::Result<()> {
     if g.refusal == 0 {
-        number(to, g.size as u64)?;
-        number(to, sum(part(buffer, 0, g.size)))?;
+        print!(to; " {} {}", g.size, sum(part(buffer, 0, g.size)))?;
     } else {
-        two(to, b" refused", g.refusal as usize, g.place)?;
+        print!(to; " refused {} {}", g.refusal, g.place)?;
     }
-    one(to, b" rest", sum(part(buffer, g.size, buffer.len())))?;
-    word(to, b"\n")
+    println!(to; " rest {}", sum(part(buffer, g.size, buffer.len())))
 }
 
 // The line of the copy of a code into a lent buffer.
 pub fn copy(to: Stdout, m: &[u8], code: u8, buffer: &mut [u8]) -> io::Result<()> {
     console::fill(buffer, FIRST);
-    one(to, b"copy", code as u64)?;
+    print!(to; "copy {code}")?;
     given(to, dhcpopt_reader::dhcpopt_copy(m, code, buffer), buffer)
 }
 
 pub fn copy_whole(to: Stdout, m: &[u8], code: u8) -> io::Result<()> {
-    let mut buffer = [0u8; 1472];
-    copy(to, m, code, &mut buffer)
+    copy(to, m, code, &mut [0; 1472])
 }
 
 // The lines of a code that the message holds, its lookup and its copy, and what is compared besides.
@@ -102,76 +108,69 @@ pub fn look_up(to: Stdout, m: &[u8], known: [u64; 4], code: u8) -> io::Result<()
 
 // The line of a lookup.
 pub fn line(to: Stdout, m: &[u8], known: [u64; 4], code: u8) -> io::Result<()> {
-    to.print(code)?;
-    let a = dhcpopt_reader::dhcpopt_lookup(m, known[0], known[1], known[2], known[3], code);
+    print!(to; "{code}")?;
+    let [w, x, y, z] = known;
+    let a = dhcpopt_reader::dhcpopt_lookup(m, w, x, y, z, code);
     answer(to, a)?;
-    word(to, b"\n")?;
+    println!(to;)?;
     names::answered(to, m, known, code, a)
 }
 
 // The line of the codes present.
 pub fn present(to: Stdout, p: PlainCodes) -> io::Result<()> {
-    let w = p.words;
-    one(to, b"present", w[0])?;
-    number(to, w[1])?;
-    number(to, w[2])?;
-    number(to, w[3])?;
-    one(to, b" count", p.count as u64)?;
-    one(to, b" lowest", p.lowest as u64)?;
-    two(to, b" refusal", p.refusal as usize, p.place)?;
-    word(to, b"\n")
+    let [w, x, y, z] = p.words;
+    println!(to;
+        "present {w} {x} {y} {z} count {} lowest {} refusal {} {}",
+        p.count, p.lowest, p.refusal, p.place
+    )
 }
 
 // The line of a lookup through an index.
 pub fn through(to: Stdout, m: &[u8], index: &[u16], known: [u64; 4], code: u8) -> io::Result<()> {
-    one(to, b"through", code as u64)?;
+    print!(to; "through {code}")?;
+    let [w, x, y, z] = known;
     answer(
         to,
-        dhcpopt_index::dhcpopt_index_lookup(m, index, known[0], known[1], known[2], known[3], code),
+        dhcpopt_index::dhcpopt_index_lookup(m, index, w, x, y, z, code),
     )?;
-    word(to, b"\n")
+    println!(to;)
 }
 
 // The line of building an index.
 pub fn build(to: Stdout, m: &[u8], index: &mut [u16]) -> io::Result<()> {
     let f = dhcpopt_index::dhcpopt_index_build(m, index);
     if f.refusal == 0 {
-        one(to, b"index", f.size as u64)?;
-        return word(to, b"\n");
+        println!(to; "index {}", f.size)
+    } else {
+        println!(to; "index refused {} {}", f.refusal, f.place)
     }
-    two(to, b"index refused", f.refusal as usize, f.place)?;
-    word(to, b"\n")
 }
 
 // The line of the records that are written to a lent buffer.
 pub fn records(to: Stdout, m: &[u8], sheet: &mut [u8]) -> io::Result<()> {
     console::fill(sheet, FIRST);
-    word(to, b"records")?;
+    print!(to; "records")?;
     given(to, dhcpopt_reader::dhcpopt_records(m, sheet), sheet)
 }
 
 // The line of the reply profile: the rules that are broken, number and place of a refusal.
 pub fn profile(to: Stdout, m: &[u8]) -> io::Result<()> {
     let p = dhcpopt_profile::dhcpopt_profile(m);
-    one(to, b"profile", p.broken as u64)?;
-    two(to, b" refusal", p.refusal as usize, p.place)?;
-    word(to, b"\n")
+    println!(to; "profile {} refusal {} {}", p.broken, p.refusal, p.place)
 }
 
 // The place and the bytes of a part, after a name and a code.
-fn shown(to: Stdout, name: &[u8], code: u8, e: PlainExtent, bytes: &[u8]) -> io::Result<()> {
-    one(to, name, code as u64)?;
-    number(to, e.start as u64)?;
-    number(to, e.length as u64)?;
+fn shown(to: Stdout, name: &str, code: u8, e: PlainExtent, bytes: &[u8]) -> io::Result<()> {
+    print!(to; "{name} {code} {} {}", e.start, e.length)?;
     console::bytes(to, bytes)?;
-    word(to, b"\n")
+    println!(to;)
 }
 
 // The line of the data of a code: its place from the call for C, its bytes from the call that gives a part.
 pub fn data(to: Stdout, m: &[u8], code: u8) -> io::Result<()> {
     shown(
         to,
-        b"data",
+        "data",
         code,
         dhcpopt_reader::dhcpopt_data(m, code),
         lookup::data(m, code),
@@ -180,57 +179,41 @@ pub fn data(to: Stdout, m: &[u8], code: u8) -> io::Result<()> {
 
 // The line of the text of a code, likewise.
 pub fn text(to: Stdout, m: &[u8], known: [u64; 4], code: u8) -> io::Result<()> {
+    let [w, x, y, z] = known;
     shown(
         to,
-        b"text",
+        "text",
         code,
-        dhcpopt_reader::dhcpopt_text(m, known[0], known[1], known[2], known[3], code),
+        dhcpopt_reader::dhcpopt_text(m, w, x, y, z, code),
         lookup::text(m, known, code),
     )
 }
 
-// The addresses of a list, by the call for C; data have at most 63.
-fn by_calls(to: Stdout, list: &[u8]) -> io::Result<()> {
-    let mut at: usize = 0;
-    let mut left: usize = 64;
-    while left > 0 {
-        let c = dhcpopt_reader::dhcpopt_address_step(list, at);
-        if c.given != 1 {
-            break;
-        }
-        number(to, c.address as u64)?;
-        at = c.next;
-        left = left - 1;
-    }
-    Ok(())
-}
-
-// The line of the address walk over the data of a code.
+// The line of the address walk over the data of a code, by the call for C; data have at most 63 addresses.
 pub fn addresses(to: Stdout, m: &[u8], code: u8) -> io::Result<()> {
-    one(to, b"walk", code as u64)?;
-    by_calls(to, lookup::data(m, code))?;
-    word(to, b"\n")
-}
-
-// The addresses of a list, by a reader.
-fn by_reader(to: Stdout, list: &[u8]) -> io::Result<()> {
+    print!(to; "walk {code}")?;
+    let list = lookup::data(m, code);
     let mut at: usize = 0;
-    let mut left: usize = 64;
-    while left > 0 {
-        let c = walk::stepped(list, at);
-        if !c.given {
+    for _ in 0..64 {
+        let step = dhcpopt_reader::dhcpopt_address_step(list, at);
+        if step.given != 1 {
             break;
         }
-        number(to, c.address as u64)?;
-        at = c.next;
-        left = left - 1;
+        print!(to; " {}", step.address)?;
+        at = step.next;
     }
-    Ok(())
+    println!(to;)
 }
 
-// The line of that walk.
+// The line of that walk by a reader, for as many.
 pub fn steps(to: Stdout, m: &[u8], code: u8) -> io::Result<()> {
-    one(to, b"steps", code as u64)?;
-    by_reader(to, lookup::data(m, code))?;
-    word(to, b"\n")
+    print!(to; "steps {code}")?;
+    let reader = AddressReader {
+        list: lookup::data(m, code),
+        at: 0,
+    };
+    for address in reader.take(64) {
+        print!(to; " {address}")?;
+    }
+    println!(to;)
 }

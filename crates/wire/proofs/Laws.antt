@@ -1,6 +1,5 @@
 -- The laws of `parse` at an offset of a field, as a loop reads it. Assumes nothing.
-use mathlib.Core.Path.{◌≡◌, refl, sym, ap, ◌∙◌}
-use mathlib.Core.Bool.{Bool, true, false}
+use mathlib.Core.Path.{◌≡◌, refl, ap, ◌∙◌}
 use mathlib.Core.List.{List, [], ◌∷◌}
 use Prim.Native.Nat.{ℕ, zero, suc, ◌+◌, ◌≤◌, ◌<◌}
 use native.Mathlib.Nat.{le_of_suc-le-suc, not-suc-le-zero}
@@ -8,7 +7,6 @@ use native.Mathlib.Omega.{arith}
 use lib.ListN.{length, get_or, take, drop, length-drop, drop_of_length-le}
 use lib.Seq.{drop-cons, drop-drop, length-take-le}
 use borrow.Author.Tests.{eq-eqb, ne_eqb, lt-ltb, le-ltb}
-use Rattle.options.specs.Message.{Rec}
 use Rattle.options.specs.Reading.{Parse, ended, ran_out_value, beyond, found, parse}
 use Rattle.wire.specs.Walk.{item_at}
 
@@ -29,7 +27,7 @@ unfolding parse
 rest_none f i h = rw (drop_of_length-le f h) refl
 
 -- what stands at the head, by the tests on it
-head_pad : (x : ℕ) (xs : List ℕ) (at : ℕ) → x ≡ 0 → parse at 0 (x ∷ xs) ≡ parse (at + 1) 0 xs
+pub head_pad : (x : ℕ) (xs : List ℕ) (at : ℕ) → x ≡ 0 → parse at 0 (x ∷ xs) ≡ parse (at + 1) 0 xs
 unfolding parse
 head_pad x xs at e = rw (eq-eqb x 0 e)
 

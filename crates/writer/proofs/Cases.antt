@@ -1,12 +1,12 @@
--- GivesByCase, proved. Assumes nothing.
+-- GivesByCase and WritesByCase, proved. Assumes nothing.
 use mathlib.Core.Path.{◌≡◌, sym, ap, ◌∙◌}
 use mathlib.Core.List.{List}
 use Prim.Native.Nat.{ℕ}
 use Rattle.options.specs.Writing as options
 use Rattle.theorems.proofs.View.{clash}
-use Rattle.plan.specs.Answer.{single_of}
-use Rattle.plan.specs.declared.Choice.TheVariants.{Plan, Refused}
-use Rattle.writer.specs.Writer.{Gives, GivesByCase}
+use Rattle.refusal.specs.Refused.{number_of}
+use Rattle.plan.specs.Answer.{Plan, Refused, single_of}
+use Rattle.writer.specs.Writer.{Gives, GivesByCase, WritesByCase}
 
 written : (s : List ℕ) (w : options.Wrote) (m after : List ℕ) (plan single : ℕ) → Gives s w m (Plan plan single) after → (w ≡ options.wrote plan after) × (single ≡ single_of s)
 written s (options.wrote p b) m after plan single g =
@@ -35,3 +35,6 @@ gives_by_case s w m after = (
     λ h. record { answer = rw h.0; buffer = rw h.0 h.1 },
   )),
 )
+
+pub writes_by_case : WritesByCase
+writes_by_case s w m after = (λ c. (gives_by_case s w m after).0 c.plan c.single, λ r. (gives_by_case s w m after).1 (number_of r.rule) r.place)

@@ -16,10 +16,8 @@ use Rattle.writing_theorems.proofs.Writer.{used_fits}
 use Rattle.writing_theorems.proofs.SheetLaws.{in_order_sound}
 use Rattle.writing_theorems.proofs.SheetSteps.{whole_left}
 use Rattle.writing_theorems.proofs.PieceSteps.{pieces_at_record, between_records}
-use Rattle.plan.specs.Answer.{answer_of, single_of}
+use Rattle.plan.specs.Answer.{Choice, Plan, Refused, answer_of, single_of}
 use Rattle.plan.proofs.Counting.{begins_single}
-use Rattle.plan.specs.declared.Choice.{Choice}
-use Rattle.plan.specs.declared.Choice.TheVariants.{Plan, Refused}
 use Rattle.writer.specs.Fill.{least_room, pieces_at, Spot}
 use Rattle.writer.specs.Writer.{Gives}
 

@@ -7,37 +7,27 @@ ghost use Rattle.options.specs.Reading.{file_in, sname_in};
 ghost use Rattle.options.specs.Kinds.{kinds};
 ghost use Rattle.options.specs.Writing.{with52, fits_if, past_options, written, writer, Between};
 ghost use Rattle.plan.specs.Steps.{left_over, From};
-ghost use Rattle.plan.specs.Pieces.{size_of, piece_of};
+ghost use Rattle.plan.specs.Answer.{chosen_by};
 ghost use Rattle.writer.specs.Fill.{filled, least_room, place_in, done_in, pieces_at, Spot, Left};
-ghost use Rattle.writer.specs.Writer.{Gives, GivesByCase};
+ghost use Rattle.writer.specs.Writer.{Gives, GivesByCase, WritesByCase};
 
-use plan::{Choice, Piece};
+use plan::Choice;
+use refusal::Refusal;
 
 // Each case of the answer, with what is left in the buffer.
 pub fn proved()
-    ensures { GivesByCase }
+    ensures { GivesByCase × WritesByCase }
 {}
 
 fn put_cookie(room: &mut [u8])
     requires { length room.old ≡ 4 }
     ensures { room.new ≡ cookie }
 {
-    room[0] = 99;
-    room[1] = 130;
-    room[2] = 83;
-    room[3] = 99;
+    room.copy_from_slice(&[99, 130, 83, 99]);
 }
 
-// A place between two pieces of the sheet is one number: the place of their record, and 65,536 for each piece of 255 bytes before. So it goes in a
-// register, and is the place itself where no piece of the record is before.
-
-// The next piece of the record at a place of the sheet.
-fn piece_here(s: &[u8], at: usize, done: usize) -> Piece
-    requires { at + 2 < length s.now }
-    ensures { result ≡ piece_of (size_of s.now at) done }
-{
-    plan::next_piece(s[at + 1], s[at + 2], done)
-}
+// A place between two pieces of the sheet is one number: the place of their record, and 65,536 for each piece of 255 bytes before. So it goes in one
+// register, and is the place itself where no piece of the record is before: for speed, no struct of two (docs/DECISIONS.md, 74).
 
 // Writes the pieces from a place on, "while each fits with one byte kept for END", then END and zeros. The result is the place after the last one.
 fn fill_pieces(field: &mut [u8], s: &[u8], spot: usize) -> usize
@@ -47,8 +37,9 @@ fn fill_pieces(field: &mut [u8], s: &[u8], spot: usize) -> usize
     let mut at = spot % 65536;
     let mut done = 255 * (spot / 65536);
     let mut end = 0;
+    // No iterator: how far a step goes is read from the bytes.
     while at < s.len() {
-        let piece = piece_here(s, at, done);
+        let piece = plan::next_piece(s[at + 1], s[at + 2], done);
         let next = end + (piece.size + 2);
         if field.len() <= next {
             break;
@@ -64,7 +55,8 @@ fn fill_pieces(field: &mut [u8], s: &[u8], spot: usize) -> usize
     at + 65536 * (done / 255)
 }
 
-// The same. Up to `single` each record is one piece, and its length is its second length byte, which takes fewer steps.
+// The same. Up to `single` each record is one piece, and its length is its second length byte. It is not one loop with the other: that took more
+// instructions than plain C, of a sheet with a long record (docs/DECISIONS.md, 73; docs/PERFORMANCE.md, 1.02).
 fn fill(field: &mut [u8], s: &[u8], single: usize, spot: usize) -> usize
     requires { Spot s.now single spot }
     ensures { (field.new ≡ filled (length field.old) (pieces_at s.now spot)) × Left s.now single (left_over (length field.old) (pieces_at s.now spot)) result }
@@ -95,8 +87,7 @@ fn fill_options(field: &mut [u8], plan: u8, s: &[u8], single: usize) -> usize
     if plan == 0 {
         return fill(field, s, single, 0);
     }
-    let body = [plan];
-    field_writer::put_option(field, 52, &body);
+    field_writer::put_option(field, 52, &[plan]);
     fill(&mut field[3..], s, single, 0)
 }
 
@@ -112,39 +103,36 @@ fn fill_if(field: &mut [u8], used: bool, s: &[u8], single: usize, spot: usize) -
     }
 }
 
-// Writes a sheet by a plan; `file` and `sname`: the plan uses them.
-fn write_plan(m: &mut [u8], s: &[u8], single: usize, plan: u8, file: bool, sname: bool)
-    requires { (240 ≤ length m.old) × (least_room plan ≤ length m.old - 240) × Spot s.now single 0 × (file ≡ file_in plan) × (sname ≡ sname_in plan) }
-    ensures { m.new ≡ written plan m.old (pieces_at s.now 0) }
+// Writes a sheet by a plan.
+fn write_plan(m: &mut [u8], s: &[u8], choice: Choice)
+    requires { (240 ≤ length m.old) × (least_room choice.plan ≤ length m.old - 240) × Spot s.now choice.single 0 }
+    ensures { m.new ≡ written choice.plan m.old (pieces_at s.now 0) }
 {
+    let Choice { plan, single } = choice;
     put_cookie(&mut m[236..240]);
     let a = fill_options(&mut m[240..], plan, s, single);
-    let b = fill_if(&mut m[108..236], file, s, single, a);
-    fill_if(&mut m[44..108], sname, s, single, b);
+    let b = fill_if(&mut m[108..236], uses_file(plan), s, single, a);
+    fill_if(&mut m[44..108], uses_sname(plan), s, single, b);
 }
 
+// Whether a plan uses file. The reader has the same test of option 52 in its walk over messages, a crate that the writer does without.
 fn uses_file(plan: u8) -> bool
     ensures { result ≡ file_in plan }
 {
-    if plan == 1 { true } else { plan == 3 }
+    plan == 1 || plan == 3
 }
 
 fn uses_sname(plan: u8) -> bool
     ensures { result ≡ sname_in plan }
 {
-    if plan == 2 { true } else { plan == 3 }
+    plan == 2 || plan == 3
 }
 
 // Writes a sheet into a buffer whose header is there. A refusal changes no byte.
-pub fn write(s: &[u8], m: &mut [u8], permission: u8) -> Choice
-    ensures { Gives s.now (writer kinds s.now m.old permission) m.old result m.new }
+pub fn write(s: &[u8], m: &mut [u8], permission: u8) -> Result<Choice, Refusal>
+    ensures { Gives s.now (writer kinds s.now m.old permission) m.old (chosen_by result) m.new }
 {
-    let choice = plan::choose(m.len(), s, permission);
-    match choice {
-        Choice::Refused { number, place } => Choice::Refused { number, place },
-        Choice::Plan { plan, single } => {
-            write_plan(m, s, single, plan, uses_file(plan), uses_sname(plan));
-            Choice::Plan { plan, single }
-        }
-    }
+    let choice = plan::choose(m.len(), s, permission)?;
+    write_plan(m, s, choice);
+    Ok(choice)
 }

@@ -21,13 +21,13 @@ pub returns-then-at-last : goal.returns-then-at-last
 returns-then-at-last c = (let step₁ : (put_mid c.loop-at.at (c.loop-at.at + 128 - c.loop-at.at) c.loop-at.dst c.copy_block.new.dst) ≡ front (c.loop-at.at + 128) c.args.dst.now c.args.src.now = front_part c.args.dst.now c.args.src.now c.loop-at.dst c.copy_block.new.dst c.loop-at.at (c.loop-at.at + 128) (omega arith) c.loop-at.invariant.1 c.loop-at.invariant.2 c.copy_block.ensures in step₁) ∙ front_all c.args.dst.now c.args.src.now (c.loop-at.at + 128) (omega arith)
 
 pub loop-at-smaller : goal.loop-at-smaller
-loop-at-smaller c = nearer _ _ c.least-at.result c.loop-at.invariant.0 c.if-at-last.false c.least-at.ensures
+loop-at-smaller c = nearer _ _ c.min-at.result c.loop-at.invariant.0 c.if-at-last.false c.min-at.ensures
 
 pub loop-at-preserved : goal.loop-at-preserved
 loop-at-preserved c = let dst : List ℕ = c.args.dst.now in
     let src : List ℕ = c.args.src.now in
     let n : ℕ = c.loop-at.at + 128 in
-    let at : ℕ = c.least-at.result in (
+    let at : ℕ = c.min-at.result in (
       omega arith,
       ap (take at) ((let step₁ : (put_mid c.loop-at.at (c.loop-at.at + 128 - c.loop-at.at) c.loop-at.dst c.copy_block.new.dst) ≡ front (c.loop-at.at + 128) c.args.dst.now c.args.src.now = front_part c.args.dst.now c.args.src.now c.loop-at.dst c.copy_block.new.dst c.loop-at.at (c.loop-at.at + 128) (omega arith) c.loop-at.invariant.1 c.loop-at.invariant.2 c.copy_block.ensures in step₁)) ∙ front_before dst src n (omega arith) at (omega arith),
       ap (drop (at + 128)) ((let step₁ : (put_mid c.loop-at.at (c.loop-at.at + 128 - c.loop-at.at) c.loop-at.dst c.copy_block.new.dst) ≡ front (c.loop-at.at + 128) c.args.dst.now c.args.src.now = front_part c.args.dst.now c.args.src.now c.loop-at.dst c.copy_block.new.dst c.loop-at.at (c.loop-at.at + 128) (omega arith) c.loop-at.invariant.1 c.loop-at.invariant.2 c.copy_block.ensures in step₁)) ∙ front_after dst src n (omega arith) (at + 128) (omega (arith, c.if-at-last.false)),

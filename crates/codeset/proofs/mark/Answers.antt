@@ -1,12 +1,7 @@
--- `codeset::mark` meets its contract. Assumes nothing.
-use native.Mathlib.Omega.{arith}
-use mathlib.Core.Path.{refl, sym, ◌∙◌}
-use Prim.Native.Nat.{◌%◌}
-use Rattle.codeset.proofs.Words.{one_shl, mark_there}
+-- `codeset::mark` meets its contract: a code that is there already changes nothing. Assumes nothing.
+use Rattle.std.proofs.Common.{rules, sym, ◌∙◌}
+use Rattle.codeset.proofs.Words.{mark_there}
 use Rattle.codeset.proofs.mark.Goals as goal
 
-pub returns-then-has : goal.returns-then-has
-returns-then-has c = (sym (mark_there c.args.w.now c.args.c (sym c.has.ensures.0 ∙ c.if-has.true)), c.has.ensures.1)
-
-pub returns : goal.returns
-returns c = (rw (c.word-k.ensures.0, one_shl (c.args.c % 64) (omega arith)) refl, c.has.ensures.1)
+pub returns-else-not-has : goal.returns-else-not-has
+returns-else-not-has c = (sym (mark_there c.args.w.now c.args.c (sym c.has.ensures ∙ c.if-not-has.false)), search rules)

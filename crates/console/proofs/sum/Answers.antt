@@ -11,10 +11,10 @@ ends : (s : List ℕ) (t i : ℕ) → length s ≤ i → sum_of t (drop i s) ≡
 unfolding sum_of
 ends s t i h = ap (sum_of t) (drop_of_length-le s h)
 
-pub loop-i-preserved : goal.loop-i-preserved
-loop-i-preserved c =
-    let l = c.loop-i in
-    (search rules, search rules, rw c.wide.ensures.0 (sym (step c.args.s.now l.t l.i (l.i + 1) c.loop-i-test.true (omega arith))) ∙ l.invariant.2)
+pub loop-x-preserved : goal.loop-x-preserved
+loop-x-preserved c =
+    let l = c.loop-x in
+    record { small = search rules; same = rw c.from.ensures (sym (step c.args.s.now l.t l.x-index (l.x-index + 1) c.loop-x-test.true (omega arith))) ∙ l.invariant.same }
 
 pub returns : goal.returns
-returns c = sym (ends c.args.s.now c.loop-i.t c.loop-i.i c.loop-i-test.false) ∙ c.loop-i.invariant.2
+returns c = sym (ends c.args.s.now c.loop-x.t c.loop-x.x-index c.loop-x-test.false) ∙ c.loop-x.invariant.same

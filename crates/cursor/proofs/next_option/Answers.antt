@@ -1,16 +1,17 @@
--- `cursor::next_option` meets its contract. Assumes nothing.
-use mathlib.Core.Path.{sym, ◌∙◌}
+-- `cursor::next_option` meets its contract: what is left is of the position's field, then of those after it. Assumes nothing.
+use mathlib.Core.Path.{◌≡◌, refl}
+use mathlib.Core.List.{List, ◌++◌}
+use Prim.Native.Nat.{ℕ}
+use Rattle.std.proofs.Common.{rules}
 use Rattle.message.specs.Fields.{field_of}
 use Rattle.message.specs.Active.{field_from, later_fields, options_from}
-use Rattle.cursor.proofs.Fields.{step_here, step_later}
+use Rattle.cursor.specs.declared.Position.{Position}
+use Rattle.cursor.specs.Cursor.{left}
 use Rattle.cursor.proofs.next_option.Goals as goal
 
-pub returns-in-Done : goal.returns-in-Done
+left_is : (v : ℕ) (m : List ℕ) (p : Position) → left v m p ≡ field_from v m (field_of p.field) p.offset ++ later_fields v m (field_of p.field)
 unfolding options_from
-returns-in-Done c = let fd = field_of c.args.from.field in
-    step_later c.after_field.result (field_from c.args.over c.args.m.now fd c.args.from.offset) (later_fields c.args.over c.args.m.now fd) (sym c.in-Done.is ∙ c.in_field-s.ensures) c.after_field.ensures
+left_is v m p = refl
 
-pub returns-in_default : goal.returns-in_default
-unfolding options_from
-returns-in_default c = let fd = field_of c.args.from.field in
-    step_here c.in_field-s.result (field_from c.args.over c.args.m.now fd c.args.from.offset) (later_fields c.args.over c.args.m.now fd) c.in_default.is c.in_field-s.ensures
+pub returns : goal.returns
+returns c = rw (left_is c.args.over c.args.m.now c.args.from) (search rules)

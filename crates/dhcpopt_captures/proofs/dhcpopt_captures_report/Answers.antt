@@ -1,11 +1,6 @@
 -- `dhcpopt_captures::dhcpopt_captures_report` meets its contract. Assumes nothing.
-use mathlib.Core.Path.{subst}
-use Rattle.captures.specs.declared.Progress.{Progress}
-use Rattle.report.specs.Printed.{Reports}
+use Rattle.dhcpopt_captures.proofs.Kept.{reports_plain}
 use Rattle.dhcpopt_captures.proofs.dhcpopt_captures_report.Goals as goal
 
-pub returns : goal.returns
-returns c = record {
-  size = c.report.ensures.size;
-  text = subst (λ (y : Progress). Reports y c.args.verdicts.now c.args.held.now c.args.bytes.now c.args.out.now c.report.result c.report.new.out) c.progress_of.ensures c.report.ensures.text;
-}
+pub returns-clause-text : goal.returns-clause-text
+returns-clause-text c = reports_plain c.args.p _ _ _ _ _ _ _ c.into.ensures c.report.ensures.text

@@ -1,10 +1,10 @@
 -- `dhcpopt_reader::dhcpopt_address_step` meets its contract. Assumes nothing.
-use Rattle.options.specs.Answers.{address_step}
-use Rattle.dhcpopt_reader.proofs.Laws.{address_given, address_done}
+use mathlib.Core.Path.{ap}
+use Rattle.dhcpopt_reader.specs.Plain.{plain_address}
 use Rattle.dhcpopt_reader.proofs.dhcpopt_address_step.Goals as goal
 
-pub returns-then-c : goal.returns-then-c
-returns-then-c c = address_given c.args.at (address_step c.args.list.now c.args.at) c.step_at-c.result c.step_at-c.ensures c.if-c.true
+pub returns-in-Some : goal.returns-in-Some
+returns-in-Some c = ap (plain_address c.args.at) c.in-Some.ensures
 
-pub returns : goal.returns
-returns c = address_done c.args.at (address_step c.args.list.now c.args.at) c.step_at-c.result c.step_at-c.ensures c.if-c.false
+pub returns-in-None : goal.returns-in-None
+returns-in-None c = ap (plain_address c.args.at) c.in-None.ensures

@@ -4,4 +4,4 @@ use Rattle.dhcpopt_reader.specs.Plain.{plain_extent}
 use Rattle.dhcpopt_reader.proofs.dhcpopt_data.Goals as goal
 
 pub returns : goal.returns
-returns c = c.of_extent.ensures ∙ ap plain_extent c.data_extent.ensures
+returns c = c.from.ensures ∙ ap plain_extent c.data_extent.ensures

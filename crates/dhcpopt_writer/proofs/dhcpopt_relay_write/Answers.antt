@@ -4,4 +4,4 @@ use Rattle.filled.specs.Plain.{plain_filled}
 use Rattle.dhcpopt_writer.proofs.dhcpopt_relay_write.Goals as goal
 
 pub returns : goal.returns
-returns c = (c.plain.ensures ∙ ap plain_filled c.relay_write.ensures.answer, c.relay_write.ensures.buffer)
+returns c = (c.from.ensures ∙ ap plain_filled c.relay_write.ensures.answer, c.relay_write.ensures.buffer)

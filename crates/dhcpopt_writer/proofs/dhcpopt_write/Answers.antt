@@ -10,4 +10,4 @@ use Rattle.dhcpopt_writer.proofs.dhcpopt_write.Goals as goal
 pub returns : goal.returns
 returns c = let written = c.write.ensures in
     let w : options.Wrote = options.writer kinds c.args.s.now c.args.m.now c.args.permission in
-    (c.of_choice.ensures ∙ ap plain_of written.answer ∙ plain_answer_lem (single_of c.args.s.now) w, written.buffer)
+    (c.from.ensures ∙ ap plain_of written.answer ∙ plain_answer_lem (single_of c.args.s.now) w, written.buffer)

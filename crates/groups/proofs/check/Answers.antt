@@ -1,41 +1,42 @@
 -- `groups::check` meets its contract. Assumes nothing.
-use mathlib.Core.Path.{sym, ap, ◌∙◌}
-use Prim.Native.Nat.{◌≤◌}
-use lib.ListN.{length}
+use mathlib.Core.Path.{refl, sym, ap, ◌∙◌}
 use lib.Seq.{length-take-le}
+use Rattle.options.specs.Answers.{passed, refused_with}
 use Rattle.options.specs.Grouped.{fault_of}
-use Rattle.groups.specs.Check.{checked_of}
-use Rattle.groups.proofs.Files.{outer, behind_some, behind_none, check_long, check_none, check_after, check_refused}
+use Rattle.refusal.specs.Refused.{number_of}
+use Rattle.std.proofs.lemmas.Result.{err_from_is_err_and}
+use Rattle.sheet.proofs.Places.{found, lost}
+use Rattle.groups.proofs.Laws.{refused_as}
+use Rattle.groups.proofs.Files.{outer, behind_some, behind_none, check_long, check_none, check_after}
 use Rattle.groups.proofs.check.Goals as goal
 
 pub returns-then-f-gt4100 : goal.returns-then-f-gt4100
-returns-then-f-gt4100 c = sym (ap checked_of (check_long c.args.f.now c.if-f-gt4100.true))
+returns-then-f-gt4100 c = refused_as c.at.ensures ∙ sym (check_long c.args.f.now c.if-f-gt4100.true)
 
-pub returns-then-n-eq0 : goal.returns-then-n-eq0
-returns-then-n-eq0 c = let f = c.args.f.now in
-    let l : length f ≤ 4100 = c.if-f-gt4100.false in
-    sym (ap checked_of (check_none f l c.outermost-n.result c.outermost-n.ensures c.if-n-eq0.true))
+pub returns-in_default : goal.returns-in_default
+returns-in_default c = refused_as c.at-in_default.ensures ∙ sym (check_none c.args.f.now c.if-f-gt4100.false _ refl (lost _ c.in_default.ensures))
 
 pub slice_bounds-check_group-end : goal.slice_bounds-check_group-end
 slice_bounds-check_group-end c = let f = c.args.f.now in
-    let l : length f ≤ 4100 = c.if-f-gt4100.false in
-    sym (length-take-le c.outermost-n.result f (outer f c.outermost-n.result c.outermost-n.ensures c.if-n-eq0.false).within)
+    let k = found _ c.in-Some.n c.in-Some.ensures in
+    sym (length-take-le c.in-Some.n f (outer f c.in-Some.n k.0 k.1).within)
+
+pub returns-in_err-check_group : goal.returns-in_err-check_group
+returns-in_err-check_group c = let f = c.args.f.now in
+    let k = found _ c.in-Some.n c.in-Some.ensures in
+    let r = c.in_err-check_group.field-0.0 in
+    let q = err_from_is_err_and c.from_residual.result c.from_residual.ensures.1 in
+    rw (q.1, q.2) (sym (check_after f c.if-f-gt4100.false c.in-Some.n k.0 k.1 (refused_with (number_of r.rule) r.place) c.in_err-check_group.ensures))
 
 pub returns-then-n-f : goal.returns-then-n-f
 unfolding fault_of
 returns-then-n-f c = let f = c.args.f.now in
-    let l : length f ≤ 4100 = c.if-f-gt4100.false in
-    let v = check_after f l c.outermost-n.result c.outermost-n.ensures c.if-n-eq0.false c.check_group.result c.check_group.ensures c.in-Passed.is in
-    sym (ap checked_of (v ∙ ap fault_of (behind_some f c.outermost-n.result c.if-n-f.true)))
+    let k = found _ c.in-Some.n c.in-Some.ensures in
+    refused_as c.at-then-n-f.ensures
+    ∙ sym (check_after f c.if-f-gt4100.false c.in-Some.n k.0 k.1 passed c.in_ok-check_group.ensures ∙ ap fault_of (behind_some f c.in-Some.n c.if-n-f.true))
 
-pub returns-else-n-f : goal.returns-else-n-f
+pub returns : goal.returns
 unfolding fault_of
-returns-else-n-f c = let f = c.args.f.now in
-    let l : length f ≤ 4100 = c.if-f-gt4100.false in
-    let v = check_after f l c.outermost-n.result c.outermost-n.ensures c.if-n-eq0.false c.check_group.result c.check_group.ensures c.in-Passed.is in
-    sym (ap checked_of (v ∙ ap fault_of (behind_none f c.outermost-n.result c.if-n-f.false)))
-
-pub returns-in-Refused : goal.returns-in-Refused
-returns-in-Refused c = let f = c.args.f.now in
-    let l : length f ≤ 4100 = c.if-f-gt4100.false in
-    sym (ap checked_of (check_refused f l c.outermost-n.result c.outermost-n.ensures c.if-n-eq0.false c.check_group.result c.in-Refused.number c.in-Refused.place c.check_group.ensures c.in-Refused.is))
+returns c = let f = c.args.f.now in
+    let k = found _ c.in-Some.n c.in-Some.ensures in
+    sym (check_after f c.if-f-gt4100.false c.in-Some.n k.0 k.1 passed c.in_ok-check_group.ensures ∙ ap fault_of (behind_none f c.in-Some.n c.if-n-f.false))

@@ -1,26 +1,20 @@
 -- `index::build_anew` meets its contract. Assumes nothing.
-use mathlib.Core.Path.{◌≡◌, sym, ◌∙◌}
+use mathlib.Core.Path.{◌≡◌, refl, sym}
 use Prim.Native.Nat.{ℕ}
 use lib.ListN.{length, replicate, length-replicate}
-use Rattle.message.proofs.Readings.{fit_length}
-use Rattle.index.proofs.Entries.{blank_marked}
-use Rattle.index.proofs.Built.{build_unfit, build_refused, build_done, last_size}
+use Rattle.std.proofs.lemmas.Result.{err_from_is_err_and}
+use Rattle.index.proofs.Built.{build_unfit, build_refused, build_done}
 use Rattle.index.proofs.build_anew.Goals as goal
 
 count : length (replicate {A = ℕ} 256 0) ≡ 256
 count = length-replicate {A = ℕ} 256 0
 
-pub returns-then-number-ne0 : goal.returns-then-number-ne0
-returns-then-number-ne0 c = build_unfit c.args.m.now (replicate 256 0) c.unfit-number.result c.unfit_place.result c.unfit-number.ensures c.if-number-ne0.true c.unfit_place.ensures
+pub returns-in_err-fit : goal.returns-in_err-fit
+returns-in_err-fit c = let p = err_from_is_err_and c.from_residual.result c.from_residual.ensures.1 in
+    rw (p.1, p.2) (build_unfit c.args.m.now (replicate 256 0) c.in_err-fit.field-0.0 c.in_err-fit.ensures.number c.in_err-fit.ensures.place)
 
-pub fill-s-requires : goal.fill-s-requires
-fill-s-requires c = ((fit_length c.args.m.now (sym c.unfit-number.ensures ∙ c.if-number-ne0.false)).1, blank_marked)
-
-pub returns-then-s-ne0 : goal.returns-then-s-ne0
-returns-then-s-ne0 c = build_refused c.args.m.now (replicate 256 0) (sym c.unfit-number.ensures ∙ c.if-number-ne0.false) count c.fill-s.result c.fill-s.new.index c.fill-s.ensures c.if-s-ne0.true
-
-pub clean-requires : goal.clean-requires
-clean-requires c = last_size c.args.m.now (replicate 256 0) (sym c.unfit-number.ensures ∙ c.if-number-ne0.false) count c.fill-s.result c.fill-s.new.index c.fill-s.ensures c.if-s-ne0.false
+pub returns-in-Err : goal.returns-in-Err
+returns-in-Err c = build_refused c.args.m.now (replicate 256 0) (sym c.in_ok-fit.ensures.number) count (Unit {0}) c.in-Err.refusal c.enter.new.index c.in-Err.ensures
 
 pub returns : goal.returns
-returns c = build_done c.args.m.now (replicate 256 0) (sym c.unfit-number.ensures ∙ c.if-number-ne0.false) count c.fill-s.result c.fill-s.new.index c.fill-s.ensures c.if-s-ne0.false c.clean.new.index c.clean.ensures
+returns c = build_done c.args.m.now (replicate 256 0) (sym c.in_ok-fit.ensures.number) count (tt {0}) c.enter.new.index c.in_default.ensures _ refl

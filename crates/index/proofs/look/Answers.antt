@@ -1,34 +1,37 @@
 -- `index::look` meets its contract. Assumes nothing.
-use mathlib.Core.Path.{◌≡◌, sym, ◌∙◌}
-use Prim.Native.Nat.{◌+◌}
+use mathlib.Core.Path.{refl}
 use native.Mathlib.Omega.{arith}
 use native.Mathlib.Nat.{add-sub_cancel_left}
-use lib.ListN.{get_or, take, drop}
-use Rattle.message.specs.Walk.{over_stop_value}
+use Rattle.message.specs.Fields.{field_of}
+use Rattle.index.proofs.Steps.{not_stopped}
 use Rattle.index.proofs.Looked.{look_pad, look_end, look_last, look_long, look_stop, look_option}
+use Rattle.index.proofs.Built.{rule_not}
 use Rattle.index.proofs.look.Goals as goal
 
 pub returns-then-c-eq0 : goal.returns-then-c-eq0
-returns-then-c-eq0 c = rw c.onward.ensures (look_pad c.args.options c.args.base c.args.f.now c.args.i c.args.over c.args.index.now c.requires.4 c.requires.0 c.if-c-eq0.true)
+returns-then-c-eq0 c = look_pad (field_of c.args.field) c.args.f.now c.args.i c.args.over c.args.index.now c.requires.2 c.requires.0 c.if-c-eq0.true
 
 pub returns-then-c : goal.returns-then-c
-returns-then-c c = rw c.onward-then-c.ensures (look_end c.args.options c.args.base c.args.f.now c.args.i c.args.over c.args.index.now c.requires.4 c.requires.0 c.if-c.true)
+returns-then-c c = look_end (field_of c.args.field) c.args.f.now c.args.i c.args.over c.args.index.now c.requires.2 c.requires.0 c.if-c.true
 
 pub returns-then-f-j : goal.returns-then-f-j
-returns-then-f-j c = rw c.refused.ensures
-    (look_last c.args.options c.args.base c.args.f.now c.args.i c.args.over c.args.index.now c.requires.4 c.requires.0 c.if-c-eq0.false c.if-c.false (omega (arith, c.if-f-j.true)))
+returns-then-f-j c =
+    look_last (field_of c.args.field) c.args.f.now c.args.i c.args.over c.args.index.now c.requires.2 c.requires.0 c.if-c-eq0.false c.if-c.false (omega (arith, c.if-f-j.true))
+    c.at.result (rw c.at.ensures refl) (rw (c.at.ensures, c.base.ensures.0) refl)
 
 pub returns-then-f-e : goal.returns-then-f-e
-returns-then-f-e c = rw c.refused-then-f-e.ensures
-    (look_long c.args.options c.args.base c.args.f.now c.args.i c.args.over c.args.index.now c.requires.4 c.requires.0 c.if-c-eq0.false c.if-c.false (omega (arith, c.if-f-j.false)) c.wide.result c.wide.ensures.0 (omega (arith, c.if-f-e.true)))
+returns-then-f-e c =
+    look_long (field_of c.args.field) c.args.f.now c.args.i c.args.over c.args.index.now c.requires.2 c.requires.0 c.if-c-eq0.false c.if-c.false (omega (arith, c.if-f-j.false)) c.wide.result c.wide.ensures.0 (omega (arith, c.if-f-e.true))
+    c.at-then-f-e.result (rw c.at-then-f-e.ensures refl) (rw (c.at-then-f-e.ensures, c.base.ensures.0) refl)
 
-pub returns-then-stop-ne0 : goal.returns-then-stop-ne0
-returns-then-stop-ne0 c = rw (c.refused-then-stop-ne0.ensures, c.number_of.ensures)
-    (look_stop c.args.options c.args.base c.args.f.now c.args.i c.args.over c.args.index.now c.requires.4 c.requires.0 c.if-c-eq0.false c.if-c.false (omega (arith, c.if-f-j.false)) c.wide.result c.wide.ensures.0 (omega (arith, c.if-f-e.false))
-    c.over_stop-stop.result (rw add-sub_cancel_left at c.over_stop-stop.ensures) c.if-stop-ne0.true)
+pub returns-in-Err : goal.returns-in-Err
+returns-in-Err c =
+    look_stop (field_of c.args.field) c.args.f.now c.args.i c.args.over c.args.index.now c.requires.2 c.requires.0 c.if-c-eq0.false c.if-c.false (omega (arith, c.if-f-j.false)) c.wide.result c.wide.ensures.0 (omega (arith, c.if-f-e.false))
+    _ (rw (add-sub_cancel_left, c.is_options.ensures) at c.in-Err.ensures) (rule_not c.in-Err.rule)
+    c.at-in-Err.result (rw c.at-in-Err.ensures refl) (rw (c.at-in-Err.ensures, c.base.ensures.0) refl)
 
 pub returns : goal.returns
-returns c = let d = take c.wide.result (drop (c.args.i + 2) c.args.f.now) in
-    let o : over_stop_value c.args.options c.args.over (get_or c.args.f.now c.args.i 0) d ≡ 0 = sym (rw add-sub_cancel_left at c.over_stop-stop.ensures) ∙ c.if-stop-ne0.false in
-    rw (c.onward-2.ensures, rw add-sub_cancel_left at c.over_after.ensures, c.entry_after.ensures, c.wide-k.ensures.0)
-    (look_option c.args.options c.args.base c.args.f.now c.args.i c.args.over c.args.index.now c.requires.4 c.requires.0 c.if-c-eq0.false c.if-c.false (omega (arith, c.if-f-j.false)) c.wide.result c.wide.ensures.0 (omega (arith, c.if-f-e.false)) o c.requires.2)
+returns c = let fd = field_of c.args.field in
+    let o = not_stopped _ (rw (add-sub_cancel_left, c.is_options.ensures) at c.in_default.ensures) in
+    rw (rw add-sub_cancel_left at c.over_after-over.ensures, c.entry_after.ensures, c.wide-k.ensures.0, c.base.ensures.0)
+    (look_option fd c.args.f.now c.args.i c.args.over c.args.index.now c.requires.2 c.requires.0 c.if-c-eq0.false c.if-c.false (omega (arith, c.if-f-j.false)) c.wide.result c.wide.ensures.0 (omega (arith, c.if-f-e.false)) o)

@@ -17,34 +17,40 @@ pub bounds-s-at : goal.bounds-s-at
 bounds-s-at c = omega (arith, head_in c.loop-at.invariant c.loop-at-test.true)
 
 pub overflow_add-start : goal.overflow_add-start
-overflow_add-start c = omega (arith, (let in_sheet₁ : c.loop-at.at + 3 + c.wide-size.result ≤ length (c.args.s.now) = within c.loop-at.invariant ((let here₁ : c.loop-at.at < length (c.args.s.now) = c.loop-at-test.true in here₁)) c.wide-size.result c.wide-size.ensures.0 in in_sheet₁))
+overflow_add-start c = omega (arith, (within c.loop-at.invariant c.loop-at-test.true c.wide-size.result c.wide-size.ensures.0))
 
 pub overflow_add-end : goal.overflow_add-end
-overflow_add-end c = omega (arith, (let in_sheet₁ : c.loop-at.at + 3 + c.wide-size.result ≤ length (c.args.s.now) = within c.loop-at.invariant ((let here₁ : c.loop-at.at < length (c.args.s.now) = c.loop-at-test.true in here₁)) c.wide-size.result c.wide-size.ensures.0 in in_sheet₁))
+overflow_add-end c = omega (arith, (within c.loop-at.invariant c.loop-at-test.true c.wide-size.result c.wide-size.ensures.0))
 
 pub overflow_add-next : goal.overflow_add-next
-overflow_add-next c = omega (arith, (let room₁ : c.loop-at.o + 2 + c.wide-size.result ≤ length c.loop-at.out = omega (arith, item_room c.loop-at.invariant ((let here₁ : c.loop-at.at < length (c.args.s.now) = c.loop-at-test.true in here₁)) c.wide-size.result c.wide-size.ensures.0) in room₁), (let bound₁ : length c.loop-at.out < 18446744073709551616 = search rules in bound₁))
+overflow_add-next c = let room : c.loop-at.o + 2 + c.wide-size.result ≤ length c.loop-at.out = omega (arith, item_room c.loop-at.invariant c.loop-at-test.true c.wide-size.result c.wide-size.ensures.0) in
+    let bound : length c.loop-at.out < 18446744073709551616 = search rules in
+    omega (arith, room, bound)
 
 pub overflow_add-next-in-loop-at : goal.overflow_add-next-in-loop-at
-overflow_add-next-in-loop-at c = omega (arith, (let room₁ : c.loop-at.o + 2 + c.wide-size.result ≤ length c.loop-at.out = omega (arith, item_room c.loop-at.invariant ((let here₁ : c.loop-at.at < length (c.args.s.now) = c.loop-at-test.true in here₁)) c.wide-size.result c.wide-size.ensures.0) in room₁), (let bound₁ : length c.loop-at.out < 18446744073709551616 = search rules in bound₁))
+overflow_add-next-in-loop-at c = let room : c.loop-at.o + 2 + c.wide-size.result ≤ length c.loop-at.out = omega (arith, item_room c.loop-at.invariant c.loop-at-test.true c.wide-size.result c.wide-size.ensures.0) in
+    let bound : length c.loop-at.out < 18446744073709551616 = search rules in
+    omega (arith, room, bound)
 
 pub slice_bounds-put_option-end : goal.slice_bounds-put_option-end
-slice_bounds-put_option-end c = (let room₁ : c.loop-at.o + 2 + c.wide-size.result ≤ length c.loop-at.out = omega (arith, item_room c.loop-at.invariant ((let here₁ : c.loop-at.at < length (c.args.s.now) = c.loop-at-test.true in here₁)) c.wide-size.result c.wide-size.ensures.0) in room₁)
+slice_bounds-put_option-end c = let room : c.loop-at.o + 2 + c.wide-size.result ≤ length c.loop-at.out = omega (arith, item_room c.loop-at.invariant c.loop-at-test.true c.wide-size.result c.wide-size.ensures.0) in
+    room
 
 pub bounds-s-at-in-loop-at : goal.bounds-s-at-in-loop-at
-bounds-s-at-in-loop-at c = (let here₁ : c.loop-at.at < length (c.args.s.now) = c.loop-at-test.true in here₁)
+bounds-s-at-in-loop-at c = c.loop-at-test.true
 
 pub slice_bounds-put_option-end-in-loop-at : goal.slice_bounds-put_option-end-in-loop-at
-slice_bounds-put_option-end-in-loop-at c = (let in_sheet₁ : c.loop-at.at + 3 + c.wide-size.result ≤ length (c.args.s.now) = within c.loop-at.invariant ((let here₁ : c.loop-at.at < length (c.args.s.now) = c.loop-at-test.true in here₁)) c.wide-size.result c.wide-size.ensures.0 in in_sheet₁)
+slice_bounds-put_option-end-in-loop-at c = within c.loop-at.invariant c.loop-at-test.true c.wide-size.result c.wide-size.ensures.0
 
 pub loop-at-smaller : goal.loop-at-smaller
-loop-at-smaller c = omega (arith, (let in_sheet₁ : c.loop-at.at + 3 + c.wide-size.result ≤ length (c.args.s.now) = within c.loop-at.invariant ((let here₁ : c.loop-at.at < length (c.args.s.now) = c.loop-at-test.true in here₁)) c.wide-size.result c.wide-size.ensures.0 in in_sheet₁))
+loop-at-smaller c = omega (arith, (within c.loop-at.invariant c.loop-at-test.true c.wide-size.result c.wide-size.ensures.0))
 
 pub loop-at-preserved : goal.loop-at-preserved
-loop-at-preserved c = let n = c.wide-size.result in
+loop-at-preserved c = let room : c.loop-at.o + 2 + c.wide-size.result ≤ length c.loop-at.out = omega (arith, item_room c.loop-at.invariant c.loop-at-test.true c.wide-size.result c.wide-size.ensures.0) in
+    let n = c.wide-size.result in
     let q = c.wide-size.ensures.0 in
-    putting_on c.loop-at.invariant ((let here₁ : c.loop-at.at < length (c.args.s.now) = c.loop-at-test.true in here₁)) n q
-    (laid_option c.loop-at.out c.loop-at.o (c.loop-at.o + 2 + n) (get_or (c.args.s.now) c.loop-at.at 0) (part c.loop-at.invariant ((let here₁ : c.loop-at.at < length (c.args.s.now) = c.loop-at-test.true in here₁)) n q) c.put_option.new.room (part_brief c.loop-at.invariant ((let here₁ : c.loop-at.at < length (c.args.s.now) = c.loop-at-test.true in here₁)) n q) (omega (arith, part_length c.loop-at.invariant ((let here₁ : c.loop-at.at < length (c.args.s.now) = c.loop-at-test.true in here₁)) n q)) ((let room₁ : c.loop-at.o + 2 + c.wide-size.result ≤ length c.loop-at.out = omega (arith, item_room c.loop-at.invariant ((let here₁ : c.loop-at.at < length (c.args.s.now) = c.loop-at-test.true in here₁)) c.wide-size.result c.wide-size.ensures.0) in room₁)) c.put_option.ensures)
+    putting_on c.loop-at.invariant c.loop-at-test.true n q
+    (laid_option c.loop-at.out c.loop-at.o (c.loop-at.o + 2 + n) (get_or (c.args.s.now) c.loop-at.at 0) (part c.loop-at.invariant c.loop-at-test.true n q) c.put_option.new.room (part_brief c.loop-at.invariant c.loop-at-test.true n q) (omega (arith, part_length c.loop-at.invariant c.loop-at-test.true n q)) room c.put_option.ensures)
 
 pub shape_of-out : goal.shape_of-out
 shape_of-out c = c.loop-at.invariant.same

@@ -7,11 +7,11 @@ use Rattle.kinds.specs.Numbers.{fault_of}
 use Rattle.kinds.proofs.Numbering.{fault_none, fault_numbered_lem}
 use Rattle.kinds.proofs.above_fault.Goals as goal
 
-pub returns-then-c-eq-RELAY : goal.returns-then-c-eq-RELAY
-returns-then-c-eq-RELAY c = c.relay_fault.ensures ∙ ap (λ (n : ℕ). fault_of n c.args.d.now) (sym c.if-c-eq-RELAY.true)
+pub returns-in-82 : goal.returns-in-82
+returns-in-82 c = c.relay_fault.ensures ∙ ap (λ (n : ℕ). fault_of n c.args.d.now) (sym c.in-82.is)
 
-pub returns-then-c-eq-ROUTES : goal.returns-then-c-eq-ROUTES
-returns-then-c-eq-ROUTES c = c.routes_fault.ensures ∙ ap (λ (n : ℕ). fault_of n c.args.d.now) (sym c.if-c-eq-ROUTES.true)
+pub returns-in-121 : goal.returns-in-121
+returns-in-121 c = c.routes_fault.ensures ∙ ap (λ (n : ℕ). fault_of n c.args.d.now) (sym c.in-121.is)
 
-pub returns : goal.returns
-returns c = fault_none c.args.c c.args.d.now (sym (no_row c.args.c (omega arith) (omega arith) c.if-c-eq-RELAY.false c.if-c-eq-ROUTES.false)) ∙ fault_numbered_lem c.args.c c.args.d.now
+pub returns-in_default : goal.returns-in_default
+returns-in_default c = fault_none c.args.c c.args.d.now (sym (no_row c.args.c (omega arith) (omega arith) (λ e. omega (arith, e)) (λ e. omega (arith, e)))) ∙ fault_numbered_lem c.args.c c.args.d.now

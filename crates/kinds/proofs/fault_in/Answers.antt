@@ -4,10 +4,10 @@ use Rattle.kinds.specs.Numbers.{row_at, fault_numbered}
 use Rattle.kinds.proofs.Numbering.{fault_rules}
 use Rattle.kinds.proofs.fault_in.Goals as goal
 
-pub returns-then-not-length_fits : goal.returns-then-not-length_fits
+pub returns-else-length_fits : goal.returns-else-length_fits
 unfolding fault_numbered
-returns-then-not-length_fits c = rw (← fault_rules (row_at c.args.row) c.args.d.now, sym c.length_fits.ensures ∙ c.if-not-length_fits.true)
+returns-else-length_fits c = rw (← fault_rules (row_at c.args.row) c.args.d.now, sym c.length_fits.ensures ∙ c.if-length_fits.false)
 
-pub returns : goal.returns
+pub returns-then-length_fits : goal.returns-then-length_fits
 unfolding fault_numbered
-returns c = rw (← fault_rules (row_at c.args.row) c.args.d.now, sym c.length_fits.ensures ∙ c.if-not-length_fits.false) c.value_fault.ensures
+returns-then-length_fits c = rw (← fault_rules (row_at c.args.row) c.args.d.now, sym c.length_fits.ensures ∙ c.if-length_fits.true) c.value_fault.ensures

@@ -1,24 +1,23 @@
--- `kinds::never_falling` meets its contract: the numbers from i on, the first at least `least`, are judged as all are from 68. Assumes nothing.
-use borrow.Author.Rules.{rules}
+-- `kinds::never_falling` meets its contract: the numbers that are left, the first at least `least`, are judged as all are from 68. Assumes nothing.
 use native.Mathlib.Omega.{arith}
-use mathlib.Core.Path.{refl, sym, ◌∙◌}
-use Rattle.kinds.proofs.Walks.{rise_end, rise_falls, rise_next}
+use mathlib.Core.Path.{sym, ap, ◌∙◌}
+use mathlib.Core.List.{List}
+use Prim.Native.Nat.{ℕ}
+use lib.ListN.{drop}
+use Rattle.options.specs.Kinds.{rising, numbers_of}
+use Rattle.kinds.proofs.Walks.{rise_end, rise_falls, rise_next, rest_is}
 use Rattle.kinds.proofs.never_falling.Goals as goal
 
-pub loop-i-init : goal.loop-i-init
-loop-i-init c = (search rules, refl)
-
 pub returns-then-v-least : goal.returns-then-v-least
-returns-then-v-least c = let d = c.args.d.now in
-    sym (rise_falls d c.loop-i.i c.loop-i.least (omega arith) (rw c.be16-v.ensures at c.if-v-least.true)) ∙ c.loop-i.invariant.1
+returns-then-v-least c = sym (rise_falls c.loop-rest.rest.now 0 c.loop-rest.least (omega arith) (omega (arith, c.be16-v.ensures, c.if-v-least.true))) ∙ c.loop-rest.invariant
 
-pub loop-i-preserved : goal.loop-i-preserved
-loop-i-preserved c = let d = c.args.d.now in (
-  search rules,
-  rw c.be16-v.ensures
-      (sym (rise_next d c.loop-i.i c.loop-i.least (omega arith) (rw c.be16-v.ensures at c.if-v-least.false)) ∙ c.loop-i.invariant.1),
-)
+pub loop-rest-preserved : goal.loop-rest-preserved
+loop-rest-preserved c =
+    let f : List ℕ = c.loop-rest.rest.now in
+    ap (λ (xs : List ℕ). rising c.be16-v.result (numbers_of xs)) (rest_is f 2 _ (omega arith))
+    ∙ ap (λ (k : ℕ). rising k (numbers_of (drop 2 f))) c.be16-v.ensures
+    ∙ sym (rise_next f 0 c.loop-rest.least (omega arith) (omega (arith, c.be16-v.ensures, c.if-v-least.false)))
+    ∙ c.loop-rest.invariant
 
 pub returns : goal.returns
-returns c = let d = c.args.d.now in
-    sym (rise_end d c.loop-i.i c.loop-i.least (omega arith)) ∙ c.loop-i.invariant.1
+returns c = sym (rise_end c.loop-rest.rest.now 0 c.loop-rest.least (omega arith)) ∙ c.loop-rest.invariant

@@ -1,28 +1,21 @@
--- `kinds::text_fits` meets its contract: the text from i on is judged as the whole is. Assumes nothing.
+-- `kinds::text_fits` meets its contract: each byte of the text is judged by itself. Assumes nothing.
+use Rattle.std.proofs.Common.{rules, tests}
 use native.Mathlib.Omega.{arith}
-use mathlib.Core.Path.{sym, ◌∙◌}
-use Rattle.kinds.proofs.Walks.{trimmed_within, text_end, text_stop, text_next}
+use mathlib.Core.Path.{ap, ◌∙◌}
+use lib.ListN.{take}
+use lib.Seq.{length-take-le}
+use Rattle.std.proofs.lemmas.Iterator.{YieldsList-from_slice}
+use Rattle.std.proofs.lemmas.Iterator.Search.{all_from_yields_List}
+use Rattle.options.specs.Kinds.{all_text, from_to_value}
+use Rattle.kinds.proofs.Walks.{trimmed_within, all_is_text}
 use Rattle.kinds.proofs.text_fits.Goals as goal
 
-pub loop-i-init : goal.loop-i-init
-loop-i-init c = (c.text_len-n.ensures, (omega arith, rw c.text_len-n.ensures))
-
-pub bounds-t-i : goal.bounds-t-i
-bounds-t-i c = omega (arith, c.loop-i.invariant.0, trimmed_within c.args.t.now)
-
-pub returns-then-not-from_to : goal.returns-then-not-from_to
-returns-then-not-from_to c = let t = c.args.t.now in
-    sym (text_stop t c.text_len-n.result c.loop-i.i (omega arith) (omega (arith, c.loop-i.invariant.0, trimmed_within t)) (sym c.from_to.ensures ∙ c.if-not-from_to.true)) ∙ c.loop-i.invariant.1.1
-
-pub loop-i-preserved : goal.loop-i-preserved
-loop-i-preserved c = let t = c.args.t.now in (
-  c.loop-i.invariant.0,
-  (
-    omega arith,
-    sym (text_next t c.text_len-n.result c.loop-i.i (omega arith) (omega (arith, c.loop-i.invariant.0, trimmed_within t)) (sym c.from_to.ensures ∙ c.if-not-from_to.false)) ∙ c.loop-i.invariant.1.1,
-  ),
-)
+pub slice_bounds-iter-end : goal.slice_bounds-iter-end
+slice_bounds-iter-end c = omega (arith, length-take-le c.text_len.result c.args.t.now (omega (arith, c.text_len.ensures, trimmed_within c.args.t.now)))
 
 pub returns : goal.returns
-returns c = let t = c.args.t.now in
-    sym (text_end t c.text_len-n.result c.loop-i.i (omega arith)) ∙ c.loop-i.invariant.1.1
+returns c =
+    let xs = take c.text_len.result c.args.t.now in
+    all_from_yields_List (from_to_value 1 127) _ _ _ c.all.ensures.ran (YieldsList-from_slice xs cc) (λ x b q k. search (rules, tests))
+    ∙ all_is_text xs
+    ∙ ap (λ n. all_text (take n c.args.t.now)) c.text_len.ensures

@@ -1,39 +1,25 @@
 -- `listing::put_lines` meets its contract: at each turn what is put, with the lines of the options that are left, makes the whole. Assumes nothing.
-use mathlib.Core.Path.{ap, ◌∙◌}
+use mathlib.Core.Path.{refl}
 use native.Mathlib.Omega.{arith}
-use lib.ListN.{length}
-use Rattle.options.specs.Answers.{lines_of}
-use Rattle.message.specs.Fields.{field_of}
-use Rattle.cursor.specs.Cursor.{left}
-use Rattle.cursor.proofs.Steps.{Next, next, none_left}
-use Rattle.text.proofs.Putting.{left_all, left_more, left_none}
-use Rattle.listing.proofs.Lines.{lines_next, no_lines}
+use Rattle.cursor.proofs.Steps.{over_still, over_next}
+use Rattle.text.proofs.Putting.{left_all}
+use Rattle.listing.proofs.Lines.{lines_done, line_put}
 use Rattle.listing.proofs.put_lines.Goals as goal
 
-pub loop-field-init : goal.loop-field-init
-loop-field-init c = rw c.first-from.ensures (left_all _ _ _)
-
-pub shape_of-out-in_default : goal.shape_of-out-in_default
-shape_of-out-in_default c = c.loop-field.invariant.same
-
-pub returns-in_default : goal.returns-in_default
-returns-in_default c = left_none c.loop-field.invariant (no_lines (left c.args.over c.args.m.now c.loop-field.from) (none_left c.args.over c.args.m.now c.loop-field.from c.in_default.ensures))
+pub loop-item-init : goal.loop-item-init
+loop-item-init c = rw (c.into_iter-item-iterator.ensures.into_iter_gives, c.first.ensures) (record { over = record { value = refl; message = refl }; left = left_all _ _ _ })
 
 pub overflow_add-start : goal.overflow_add-start
-overflow_add-start c = let x = (let turn₁ : Next c.args.over c.args.m.now c.loop-field.from c.in-Item.field c.in-Item.offset c.in-Item.code c.in-Item.len = next c.args.over c.args.m.now c.loop-field.from _ _ _ _ c.in-Item.ensures in turn₁) in omega (arith, x.within, c.base.ensures.0)
+overflow_add-start c = omega (arith, (over_next c.loop-item.invariant.over c.in-Some.ensures.steps).within, c.base.ensures.0)
 
-pub overflow_add-start-in-loop-field : goal.overflow_add-start-in-loop-field
-overflow_add-start-in-loop-field c = let x = (let turn₁ : Next c.args.over c.args.m.now c.loop-field.from c.in-Item.field c.in-Item.offset c.in-Item.code c.in-Item.len = next c.args.over c.args.m.now c.loop-field.from _ _ _ _ c.in-Item.ensures in turn₁) in omega (arith, x.within, c.base.ensures.0)
+pub overflow_add-start-in-loop-item : goal.overflow_add-start-in-loop-item
+overflow_add-start-in-loop-item c = omega (arith, (over_next c.loop-item.invariant.over c.in-Some.ensures.steps).within, c.base.ensures.0)
 
-pub overflow_add-from : goal.overflow_add-from
-overflow_add-from c = let x = (let turn₁ : Next c.args.over c.args.m.now c.loop-field.from c.in-Item.field c.in-Item.offset c.in-Item.code c.in-Item.len = next c.args.over c.args.m.now c.loop-field.from _ _ _ _ c.in-Item.ensures in turn₁) in omega (arith, x.within)
+pub loop-item-preserved : goal.loop-item-preserved
+loop-item-preserved c = record {
+  over = over_still c.loop-item.invariant.over c.in-Some.ensures.steps;
+  left = line_put c.args.over c.args.m.now c.loop-item.invariant.left c.loop-item.invariant.over c.in-Some.ensures.steps c.base.ensures.0 c.put_line-o.ensures;
+}
 
-pub overflow_add-from-in-loop-field : goal.overflow_add-from-in-loop-field
-overflow_add-from-in-loop-field c = let x = (let turn₁ : Next c.args.over c.args.m.now c.loop-field.from c.in-Item.field c.in-Item.offset c.in-Item.code c.in-Item.len = next c.args.over c.args.m.now c.loop-field.from _ _ _ _ c.in-Item.ensures in turn₁) in omega (arith, x.within)
-
-pub loop-field-smaller : goal.loop-field-smaller
-loop-field-smaller c = let x = (let turn₁ : Next c.args.over c.args.m.now c.loop-field.from c.in-Item.field c.in-Item.offset c.in-Item.code c.in-Item.len = next c.args.over c.args.m.now c.loop-field.from _ _ _ _ c.in-Item.ensures in turn₁) in omega (arith, ap length x.is)
-
-pub loop-field-preserved : goal.loop-field-preserved
-loop-field-preserved c = let x = (let turn₁ : Next c.args.over c.args.m.now c.loop-field.from c.in-Item.field c.in-Item.offset c.in-Item.code c.in-Item.len = next c.args.over c.args.m.now c.loop-field.from _ _ _ _ c.in-Item.ensures in turn₁) in
-    left_more c.loop-field.invariant _ _ (ap lines_of x.is ∙ lines_next (field_of c.in-Item.field) c.in-Item.offset c.in-Item.code c.in-Item.len x.body _ x.size) (rw c.base.ensures.0 at c.put_line-o.ensures)
+pub returns : goal.returns
+returns c = lines_done c.args.over c.args.m.now c.loop-item.invariant.left c.loop-item.invariant.over c.in-None.ensures.steps

@@ -1,9 +1,10 @@
 -- `lookup::data_extent` meets its contract. Assumes nothing.
-use Rattle.lookup.proofs.Laws.{data_zero, data_end}
+use native.Mathlib.Omega.{arith}
+use mathlib.Core.Path.{ap, ◌∙◌}
+use Rattle.message.proofs.Callers.{all_bytes}
+use Rattle.lookup.specs.Found.{part_given}
+use Rattle.lookup.proofs.Laws.{data_part}
 use Rattle.lookup.proofs.data_extent.Goals as goal
 
-pub returns-then-code-eq0 : goal.returns-then-code-eq0
-returns-then-code-eq0 c = data_zero c.args.m.now c.args.code c.if-code-eq0.true
-
-pub returns-then-code-eq255 : goal.returns-then-code-eq255
-returns-then-code-eq255 c = data_end c.args.m.now c.args.code c.if-code-eq0.false c.if-code-eq255.true
+pub returns : goal.returns
+returns c = c.clip.ensures ∙ ap part_given c.one_piece.ensures ∙ data_part c.args.m.now c.args.code (all_bytes c.args.m.now (λ i. omega (arith, c.type_inv.m i)))

@@ -1,10 +1,8 @@
 -- `message::fields` meets its contract: at each turn the fields that are left give the same as all. Assumes nothing.
-use Prim.Native.Nat.{◌-◌}
 use Rattle.message.proofs.Turns.{Turning}
+use denote.Param.{number}
+use Rattle.message.specs.contracts.fields.{MARKED-type}
 use Rattle.message.proofs.fields.Given as goal
 
-abbrev pub invariant-loop-s : goal.invariant-loop-s
-invariant-loop-s l = Turning l.watched l.marks l.want l.first l.m l.initial.set l.set l.s l.turn l.from l.to
-
-abbrev pub decreases-loop-s : goal.decreases-loop-s
-decreases-loop-s l = 3 - l.turn
+abbrev pub invariant-loop-field : goal.invariant-loop-field
+invariant-loop-field g l = Turning l.watched (MARKED-type (number g.row.MARKED)) l.want l.first l.m l.initial.set l.field-index l.s l.set

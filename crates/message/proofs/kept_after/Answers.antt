@@ -1,5 +1,4 @@
 -- `message::kept_after` meets its contract. Assumes nothing.
-use mathlib.Core.Bool.{true, false}
 use borrow.Author.Tests.{eq-eqb, ne_eqb}
 use Rattle.message.proofs.kept_after.Goals as goal
 

@@ -1,11 +1,13 @@
 -- `message::pass` meets its contract: at each turn what is left gives the same as the whole. Assumes nothing.
-use Prim.Native.Nat.{◌-◌}
+use Prim.Native.Nat.{◌-◌, ◌<◌}
 use lib.ListN.{length}
 use Rattle.message.specs.Walk.{Passing}
+use denote.Param.{number}
+use Rattle.message.specs.contracts.pass.{MARKED-type}
 use Rattle.message.proofs.pass.Given as goal
 
-abbrev pub invariant-loop-i : goal.invariant-loop-i
-invariant-loop-i l = Passing l.watched l.marks l.f l.from l.initial.set l.i l.count l.set
+abbrev pub invariant-loop-end : goal.invariant-loop-end
+invariant-loop-end g l = record { passing : Passing l.watched (MARKED-type (number g.row.MARKED)) l.f l.from l.initial.set l.i l.count l.set; room : l.i < l.end }
 
-abbrev pub decreases-loop-i : goal.decreases-loop-i
-decreases-loop-i l = length l.f - l.i
+abbrev pub decreases-loop-end : goal.decreases-loop-end
+decreases-loop-end g l = length l.f - l.i

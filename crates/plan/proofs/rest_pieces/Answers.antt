@@ -1,38 +1,37 @@
 -- `plan::rest_pieces` meets its contract. Assumes nothing.
 use mathlib.Core.Path.{◌≡◌, ap, ◌∙◌}
 use mathlib.Core.List.{List}
-use Prim.Native.Nat.{ℕ, ◌+◌, ◌-◌, ◌^◌, ◌<◌}
+use Prim.Native.Nat.{ℕ, ◌-◌}
 use native.Mathlib.Omega.{arith}
-use lib.ListN.{length}
 use Rattle.options.specs.Writing.{fits, pieces_left}
-use Rattle.writing_theorems.proofs.PieceSteps.{Piece}
 use Rattle.plan.specs.Steps.{sizes, left_over, From}
 use Rattle.plan.proofs.Counting.{head_at, piece_at, at_end_lem, no_room, counting_none, counting_more, counted}
-use borrow.Author.Rules.{rules}
 use Rattle.plan.proofs.rest_pieces.Goals as goal
 use Rattle.plan.proofs.rest_pieces.Goals.{else-loop-place-test, then-loop-place-test+then-left-size}
 
 pub loop-place-init : goal.loop-place-init
-loop-place-init c = counting_none _ c.args.s.now c.args.from c.args.inside c.requires.0
+loop-place-init c = counting_none _ c.args.s.now c.args.rest.place c.args.rest.done c.requires.0
 
-pub piece_here-piece-requires : goal.piece_here-piece-requires
-piece_here-piece-requires c = head_at (c.args.s.now) c.loop-place.place c.loop-place.done c.loop-place.invariant.between c.loop-place-test.true
+pub bounds-s-place : goal.bounds-s-place
+bounds-s-place c = omega (arith, head_at c.args.s.now c.loop-place.place c.loop-place.done c.loop-place.invariant.between c.loop-place-test.true)
+
+pub bounds-s-place-in-loop-place : goal.bounds-s-place-in-loop-place
+bounds-s-place-in-loop-place c = head_at c.args.s.now c.loop-place.place c.loop-place.done c.loop-place.invariant.between c.loop-place-test.true
 
 pub overflow_add-size : goal.overflow_add-size
-overflow_add-size c = omega (arith, ((let piece₁ : Piece (c.args.s.now) c.loop-place.place c.loop-place.done c.piece_here-piece.result.size (c.loop-place.place + c.piece_here-piece.result.ahead) c.piece_here-piece.result.done = piece_at (c.args.s.now) c.loop-place.place c.loop-place.done c.piece_here-piece.result c.loop-place.invariant.between c.loop-place-test.true c.piece_here-piece.ensures in piece₁)).most)
+overflow_add-size c = let p = piece_at c.args.s.now c.loop-place.place c.loop-place.done _ c.loop-place.invariant.between c.loop-place-test.true c.next_piece-piece.ensures in
+    omega (arith, p.most)
 
 pub overflow_sub-left : goal.overflow_sub-left
 overflow_sub-left c = omega (arith, c.if-left-size.false)
 
-pub overflow_add-place : goal.overflow_add-place
-overflow_add-place c = let bound : length (c.args.s.now) < 2 ^ 63 = search rules in
-    omega (arith, bound, ((let piece₁ : Piece (c.args.s.now) c.loop-place.place c.loop-place.done c.piece_here-piece.result.size (c.loop-place.place + c.piece_here-piece.result.ahead) c.piece_here-piece.result.done = piece_at (c.args.s.now) c.loop-place.place c.loop-place.done c.piece_here-piece.result c.loop-place.invariant.between c.loop-place-test.true c.piece_here-piece.ensures in piece₁)).between.whole.to_end)
-
 pub loop-place-smaller : goal.loop-place-smaller
-loop-place-smaller c = omega (arith, ((let piece₁ : Piece (c.args.s.now) c.loop-place.place c.loop-place.done c.piece_here-piece.result.size (c.loop-place.place + c.piece_here-piece.result.ahead) c.piece_here-piece.result.done = piece_at (c.args.s.now) c.loop-place.place c.loop-place.done c.piece_here-piece.result c.loop-place.invariant.between c.loop-place-test.true c.piece_here-piece.ensures in piece₁)).further, ((let piece₁ : Piece (c.args.s.now) c.loop-place.place c.loop-place.done c.piece_here-piece.result.size (c.loop-place.place + c.piece_here-piece.result.ahead) c.piece_here-piece.result.done = piece_at (c.args.s.now) c.loop-place.place c.loop-place.done c.piece_here-piece.result c.loop-place.invariant.between c.loop-place-test.true c.piece_here-piece.ensures in piece₁)).within)
+loop-place-smaller c = let p = piece_at c.args.s.now c.loop-place.place c.loop-place.done _ c.loop-place.invariant.between c.loop-place-test.true c.next_piece-piece.ensures in
+    omega (arith, p.further, p.within)
 
 pub loop-place-preserved : goal.loop-place-preserved
-loop-place-preserved c = counting_more _ _ _ _ c.loop-place.place c.loop-place.done c.loop-place.left _ _ _ c.loop-place.invariant ((let piece₁ : Piece (c.args.s.now) c.loop-place.place c.loop-place.done c.piece_here-piece.result.size (c.loop-place.place + c.piece_here-piece.result.ahead) c.piece_here-piece.result.done = piece_at (c.args.s.now) c.loop-place.place c.loop-place.done c.piece_here-piece.result c.loop-place.invariant.between c.loop-place-test.true c.piece_here-piece.ensures in piece₁)) (omega arith) c.if-left-size.false
+loop-place-preserved c = let p = piece_at c.args.s.now c.loop-place.place c.loop-place.done _ c.loop-place.invariant.between c.loop-place-test.true c.next_piece-piece.ensures in
+    counting_more _ _ _ _ c.loop-place.place c.loop-place.done c.loop-place.left _ _ _ c.loop-place.invariant p (omega arith) c.if-left-size.false
 
 pub overflow_sub-result : goal.overflow_sub-result
 overflow_sub-result c = c.loop-place.invariant.within
@@ -46,9 +45,9 @@ returns c = let s : List ℕ = c.args.s.now in
     elim c.loop-place-test.branch [
       | else-loop-place-test w ↦ at_end_lem c.loop-place.left s c.loop-place.place c.loop-place.done w.loop-place-test.false
       | then-loop-place-test+then-left-size w ↦ no_room c.loop-place.left s c.loop-place.place c.loop-place.done _ _ _
-          (piece_at s c.loop-place.place c.loop-place.done w.piece_here-piece.result c.loop-place.invariant.between w.loop-place-test.true w.piece_here-piece.ensures) w.if-left-size.true
+          (piece_at s c.loop-place.place c.loop-place.done w.next_piece-piece.result c.loop-place.invariant.between w.loop-place-test.true w.next_piece-piece.ensures) w.if-left-size.true
     ] in
-    let o : From s (left_over c.args.room (pieces_left s c.args.from c.args.inside)) c.loop-place.place c.loop-place.done =
-    counted _ s c.args.from c.args.inside c.loop-place.place c.loop-place.done c.loop-place.left c.loop-place.invariant z in
-    let n : c.args.total - (c.args.room - c.loop-place.left) ≡ sizes (pieces_left s c.loop-place.place c.loop-place.done) = omega (arith, c.requires.1, c.loop-place.invariant.sum) in
+    let o : From s (left_over c.args.room (pieces_left s c.args.rest.place c.args.rest.done)) c.loop-place.place c.loop-place.done =
+    counted _ s c.args.rest.place c.args.rest.done c.loop-place.place c.loop-place.done c.loop-place.left c.loop-place.invariant z in
+    let n : c.args.rest.total - (c.args.room - c.loop-place.left) ≡ sizes (pieces_left s c.loop-place.place c.loop-place.done) = omega (arith, c.requires.1, c.loop-place.invariant.sum) in
     record { from = o; onward = c.loop-place.invariant.onward; total = n ∙ ap sizes o.pieces }

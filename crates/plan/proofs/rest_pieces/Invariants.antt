@@ -5,7 +5,7 @@ use Rattle.plan.proofs.Counting.{Counting}
 use Rattle.plan.proofs.rest_pieces.Given as goal
 
 abbrev pub invariant-loop-place : goal.invariant-loop-place
-invariant-loop-place l = Counting l.room l.s l.from l.inside l.place l.done l.left
+invariant-loop-place l = Counting l.room l.s l.initial.place l.initial.done l.place l.done l.left
 
 abbrev pub decreases-loop-place : goal.decreases-loop-place
 decreases-loop-place l = length l.s - (l.place + l.done)

@@ -4,7 +4,7 @@ use Rattle.records.proofs.Joining.{Counting}
 use Rattle.records.proofs.count_pieces.Given as goal
 
 abbrev pub invariant-loop-i : goal.invariant-loop-i
-invariant-loop-i l = Counting l.over l.m l.initial.table l.table l.i
+invariant-loop-i l = Counting l.over l.m l.initial.table l.table l.from
 
 abbrev pub decreases-loop-i : goal.decreases-loop-i
-decreases-loop-i l = bytes_left l.m l.i
+decreases-loop-i l = bytes_left l.m l.from

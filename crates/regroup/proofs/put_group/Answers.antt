@@ -13,7 +13,7 @@ use Rattle.regroup.proofs.Laws.{laid_four}
 use Rattle.regroup.proofs.put_group.Goals as goal
 
 pub returns-then-room-n : goal.returns-then-room-n
-returns-then-room-n c = fills_small (filled_with (in_group c.args.s.now) c.args.out.now) (in_group c.args.s.now) c.args.out.now refl (omega (arith, c.if-room-n.true))
+returns-then-room-n c = fills_small (filled_with (in_group c.args.s.now) c.args.out.now) (in_group c.args.s.now) c.args.out.now refl c.at.result c.at.ensures (omega (arith, c.if-room-n.true))
 
 pub bounds-out-1 : goal.bounds-out-1
 bounds-out-1 c = simp length-set (omega arith)

@@ -1,20 +1,16 @@
 -- `report::put_refusals` meets its contract. Assumes nothing.
-use native.Mathlib.Omega.{arith}
-use Rattle.text.proofs.Putting.{left_all, left_more, left_none}
-use Rattle.report.proofs.Lines.{refusals_next, refusals_none}
+use Rattle.std.proofs.Common.{rules, ◌≡◌, length, arith}
+use Rattle.text.proofs.Putting.{puts_as, left_more, left_none}
+use Rattle.report.proofs.Lines.{refusal_two, refusals_next, refusals_none}
 use Rattle.report.proofs.put_refusals.Goals as goal
 
-pub loop-k-init : goal.loop-k-init
-loop-k-init c = left_all _ _ _
-
-pub loop-k-smaller : goal.loop-k-smaller
-loop-k-smaller c = omega (arith, c.loop-k-test.true)
-
-pub loop-k-preserved : goal.loop-k-preserved
-loop-k-preserved c = left_more c.loop-k.invariant _ _ (refusals_next c.loop-k.k c.args.verdicts.now c.loop-k-test.true) c.put_refusal-o.ensures
-
-pub shape_of-out : goal.shape_of-out
-shape_of-out c = c.loop-k.invariant.same
+pub loop-number-preserved : goal.loop-number-preserved
+loop-number-preserved c =
+    let k = c.loop-number.number in
+    let eight : length c.args.verdicts.now ≡ 8 = search rules in
+    left_more c.loop-number.invariant _ _ (refusals_next k c.args.verdicts.now (omega (arith, c.loop-number-test.true, eight))) (puts_as (refusal_two k _) c.put_line-o.ensures)
 
 pub returns : goal.returns
-returns c = left_none c.loop-k.invariant (refusals_none c.loop-k.k c.args.verdicts.now (omega (arith, c.loop-k-test.false)))
+returns c =
+    let eight : length c.args.verdicts.now ≡ 8 = search rules in
+    left_none c.loop-number.invariant (refusals_none c.loop-number.number c.args.verdicts.now (omega (arith, c.loop-number-test.false, eight)))

@@ -1,9 +1,8 @@
--- `report_captures::fill_all`: what was taken so far. The measure is the number of fillings that are left. Assumes nothing.
+-- `report_captures::fill_all`: what was taken so far. Assumes nothing.
+use Rattle.tally.specs.Noted.{StaysLent}
+use Rattle.captures.specs.Standing.{told_by}
 use Rattle.report_captures.specs.Filled.{Filled}
 use Rattle.report_captures.proofs.fill_all.Given as goal
 
-abbrev pub invariant-loop-left : goal.invariant-loop-left
-invariant-loop-left l = Filled l.initial.kept l.initial.verdicts l.initial.held l.initial.bytes l.total l.p l.kept l.verdicts l.held l.bytes
-
-abbrev pub decreases-loop-left : goal.decreases-loop-left
-decreases-loop-left l = l.left
+abbrev pub invariant-loop : goal.invariant-loop
+invariant-loop l = StaysLent l.initial.tally l.tally × Filled l.initial.kept l.initial.tally.verdicts.now l.initial.tally.held.now l.initial.tally.bytes.now l.input.total (told_by l.p) l.kept l.tally.verdicts.now l.tally.held.now l.tally.bytes.now

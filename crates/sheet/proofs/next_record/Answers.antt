@@ -9,10 +9,10 @@ use Rattle.sheet.specs.declared.Step.TheVariants.{Record}
 use Rattle.sheet.proofs.next_record.Goals as goal
 
 pub returns-then-at-s : goal.returns-then-at-s
-returns-then-at-s c = ap step_of (sym (step_head c.args.s.now c.args.at c.if-at-s.true (omega (arith, c.if-heads_end-at.true, c.heads_end.ensures))))
+returns-then-at-s c = ap step_of (sym (step_head c.args.s.now c.args.at c.if-at-s.true (omega (arith, c.if-saturating_sub-at.true, c.saturating_sub.ensures))))
 
-pub returns-then-heads_end-at : goal.returns-then-heads_end-at
-returns-then-heads_end-at c = ap step_of (sym (step_none c.args.s.now c.args.at c.if-at-s.false))
+pub returns-then-saturating_sub-at : goal.returns-then-saturating_sub-at
+returns-then-saturating_sub-at c = ap step_of (sym (step_none c.args.s.now c.args.at c.if-at-s.false))
 
 pub returns-then-s-at : goal.returns-then-s-at
 returns-then-s-at c = let head : c.args.at + 3 ≤ length c.args.s.now = omega arith in

@@ -5,7 +5,7 @@ use Rattle.tally.proofs.count_first.Goals as goal
 pub returns : goal.returns
 returns c = (
   omega (arith, c.wide-k.ensures),
-  c.mark.ensures,
+  c.insert.ensures.new,
   rw c.wide-k.ensures.0 at c.raise.ensures,
   rw c.wide-k.ensures.0 at c.raise-2.ensures,
 )

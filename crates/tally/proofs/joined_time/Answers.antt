@@ -11,7 +11,7 @@ pub returns-then-first-last : goal.returns-then-first-last
 returns-then-first-last c = let w = c.args.w in
     let m = c.args.m.now in
     let e : c.part-first.result.now ≡ data_at m (w.start - 2) =
-    c.part-first.ensures.0 ∙ ap (λ (n : ℕ). take n (drop w.start m)) c.wide.ensures.0 ∙ sym (piece_is m w.start c.requires.least) in
+    c.part-first.ensures.0 ∙ ap (λ (n : ℕ). take n (drop w.start m)) c.wide.ensures.0 ∙ sym (piece_is m w.start (omega (arith, c.requires.least))) in
     let f : c.part-last.result.now ≡ data_at m w.last = c.part-last.ensures.0 ∙ ap (λ (n : ℕ). take n (drop (w.last + 2) m)) c.wide-2.ensures.0 in
     c.both_time.ensures
     ∙ ap first32 (ap₂ (λ (x y : List ℕ). x ++ y) e f ∙ c.requires.both (omega (arith, ap length e, ap length f, c.if-first-last.true)))

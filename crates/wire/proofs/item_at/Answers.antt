@@ -1,29 +1,31 @@
 -- `wire::item_at` meets its contract. Assumes nothing.
 use native.Mathlib.Omega.{arith}
-use mathlib.Core.Path.{sym, ◌∙◌}
+use mathlib.Core.Path.{◌≡◌, sym, ◌∙◌}
 use Prim.Native.Nat.{◌+◌, ◌<◌, ◌≤◌}
 use lib.ListN.{length, get_or}
+use borrow.Author.Tests.{ltb-true, ltb-false}
+use Rattle.std.proofs.lemmas.Grind.{get_or_default_zero}
 use Rattle.wire.proofs.Laws.{rest_end, rest_last, rest_long, rest_found, body_length}
 use Rattle.wire.proofs.item_at.Goals as goal
 
-pub returns-then-c-eq255 : goal.returns-then-c-eq255
-returns-then-c-eq255 c = let f = c.args.f.now in
-    let i = c.args.i in
-    rw (rest_end f i c.requires.0 (sym c.requires.1 ∙ c.if-c-eq255.true))
+pub returns-then-code : goal.returns-then-code
+returns-then-code c = rw (rest_end c.args.f.now c.args.i c.requires.0 c.if-code.true)
 
-pub returns-then-f-j : goal.returns-then-f-j
-returns-then-f-j c = let f = c.args.f.now in
-    let i = c.args.i in
-    rw (rest_last f i c.requires.0 (λ e. c.requires.2 (c.requires.1 ∙ e)) (λ e. c.if-c-eq255.false (c.requires.1 ∙ e)) c.if-f-j.true)
+pub returns-in_err-get : goal.returns-in_err-get
+returns-in_err-get c =
+    let l : length c.args.f.now ≤ c.args.i + 1 = ltb-false _ _ (sym c.in_err-get.ensures.lookup.0) in
+    rw (c.from_residual.ensures, rest_last c.args.f.now c.args.i c.requires.0 c.requires.1 c.if-code.false l)
 
-pub returns-then-f-j-2 : goal.returns-then-f-j-2
-returns-then-f-j-2 c = let f = c.args.f.now in
-    let i = c.args.i in
-    let n : length f < i + 2 + get_or f (i + 1) 0 = omega (arith, c.if-f-j-2.true, c.wide-n.ensures.0) in
-    rw (rest_long f i c.requires.0 (λ e. c.requires.2 (c.requires.1 ∙ e)) (λ e. c.if-c-eq255.false (c.requires.1 ∙ e)) (omega (arith, c.if-f-j.false)) n)
+pub returns-then-f-i : goal.returns-then-f-i
+returns-then-f-i c =
+    let l : c.args.i + 1 < length c.args.f.now = ltb-true _ _ (sym c.in_ok-get.ensures.lookup.0) in
+    let e : c.from-len.result ≡ get_or c.args.f.now (c.args.i + 1) 0 = c.from-len.ensures ∙ c.in_ok-get.ensures.lookup.1 ∙ get_or_default_zero _ _ _ l in
+    let n : length c.args.f.now < c.args.i + 2 + get_or c.args.f.now (c.args.i + 1) 0 = omega (arith, c.if-f-i.true, e) in
+    rw (rest_long c.args.f.now c.args.i c.requires.0 c.requires.1 c.if-code.false l n)
 
 pub returns : goal.returns
-returns c = let f = c.args.f.now in
-    let i = c.args.i in
-    let n : i + 2 + get_or f (i + 1) 0 ≤ length f = omega (arith, c.if-f-j-2.false, c.wide-n.ensures.0) in
-    rw (rest_found f i c.requires.0 (λ e. c.requires.2 (c.requires.1 ∙ e)) (λ e. c.if-c-eq255.false (c.requires.1 ∙ e)) (omega (arith, c.if-f-j.false)) n, body_length f i (get_or f (i + 1) 0) n, c.wide-n.ensures.0, c.requires.1)
+returns c =
+    let l : c.args.i + 1 < length c.args.f.now = ltb-true _ _ (sym c.in_ok-get.ensures.lookup.0) in
+    let e : c.from-len.result ≡ get_or c.args.f.now (c.args.i + 1) 0 = c.from-len.ensures ∙ c.in_ok-get.ensures.lookup.1 ∙ get_or_default_zero _ _ _ l in
+    let n : c.args.i + 2 + get_or c.args.f.now (c.args.i + 1) 0 ≤ length c.args.f.now = omega (arith, c.if-f-i.false, e) in
+    rw (rest_found c.args.f.now c.args.i c.requires.0 c.requires.1 c.if-code.false l n, body_length c.args.f.now c.args.i (get_or c.args.f.now (c.args.i + 1) 0) n, e)

@@ -22,7 +22,7 @@ fill_if-requires c = c.fill_if-b.ensures.1.spot_is
 pub returns : goal.returns
 returns c = let m : List ℕ = c.args.m.now in
     let s : List ℕ = c.args.s.now in
-    let p : ℕ = c.args.plan in
+    let p : ℕ = c.args.choice.plan in
     let n : ℕ = length m - 240 in
     let rs : List Rec = pieces_at s 0 in
     let os : List Rec = pieces_at s c.fill_options-a.result in
@@ -38,9 +38,9 @@ returns c = let m : List ℕ = c.args.m.now in
     let old-sname : _ ≡ take 64 (drop 44 m) = lent_sname m c.put_cookie.new.room c.fill_options-a.new.field c.fill_if-b.new.field [] hm lc lf in
     let when_in_options : c.fill_options-a.new.field ≡ filled n (with52 p rs) = c.fill_options-a.ensures.0 ∙ ap (λ (k : ℕ). filled k (with52 p rs)) room in
     let when_past_options : os ≡ past_options p n rs = c.fill_options-a.ensures.1.pieces ∙ ap (λ (k : ℕ). past_options p k rs) room in
-    let when_in_file : c.fill_if-b.new.field ≡ cond (file_in p) (filled 128 os) (take 128 (drop 108 m)) = field_eq os c.fill_if-b.ensures.0 c.requires.3 ff old-file in
-    let when_past_file : fs ≡ drop (fits_if (file_in p) 128 os) os = c.fill_if-b.ensures.1.pieces ∙ dropped _ _ _ _ os c.requires.3 ff in
-    let when_in_sname : c.fill_if.new.field ≡ cond (sname_in p) (filled 64 fs) (take 64 (drop 44 m)) = field_eq fs c.fill_if.ensures.0 c.requires.4 sl old-sname in
+    let when_in_file : c.fill_if-b.new.field ≡ cond (file_in p) (filled 128 os) (take 128 (drop 108 m)) = field_eq os c.fill_if-b.ensures.0 c.uses_file.ensures ff old-file in
+    let when_past_file : fs ≡ drop (fits_if (file_in p) 128 os) os = c.fill_if-b.ensures.1.pieces ∙ dropped _ _ _ _ os c.uses_file.ensures ff in
+    let when_in_sname : c.fill_if.new.field ≡ cond (sname_in p) (filled 64 fs) (take 64 (drop 44 m)) = field_eq fs c.fill_if.ensures.0 c.uses_sname.ensures sl old-sname in
     is4 m c.put_cookie.new.room c.fill_options-a.new.field c.fill_if-b.new.field c.fill_if.new.field hm lc lf
     ∙ join5_eq (take 44 m) _ _ _ _ _ _ _ _ when_in_sname when_in_file c.put_cookie.ensures when_in_options
     ∙ plan_written p m rs (omega arith) os fs when_past_options when_past_file

@@ -1,5 +1,0 @@
--- `route_cases::main` is safe and ends. The measure is the number of cases that are left. Assumes nothing.
-use Rattle.route_cases.proofs.main.Given as goal
-
-abbrev pub decreases-loop-left : goal.decreases-loop-left
-decreases-loop-left l = l.left

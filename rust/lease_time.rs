@@ -1,6 +1,6 @@
 //! The lease time and the routers of a message on standard input, by the crate `dhcpopt`.
 
-use dhcpopt::{address_step, addresses, data, lookup, Answer, Content, Field};
+use dhcpopt::{data, lookup, AddressReader, Content, Field, Found};
 use std::io::Read;
 
 fn main() {
@@ -8,7 +8,7 @@ fn main() {
     std::io::stdin().read_to_end(&mut message).expect("a message");
     let every_code = [u64::MAX; 4];
     match lookup(&message, every_code, 51) {
-        Answer::Found { origin, content: Content::Unsigned32(seconds) } => {
+        Ok(Some(Found { origin, content: Content::Unsigned32(seconds) })) => {
             let field = match origin.field {
                 Field::Options => "options",
                 Field::File => "file",
@@ -16,13 +16,11 @@ fn main() {
             };
             println!("lease time: {} s, in {}", seconds, field);
         }
-        Answer::Found { .. } => println!("a broken lease time"),
-        Answer::Refused { number, place } => println!("the message is refused: {} at {}", number, place),
-        Answer::Absent => println!("no lease time"),
+        Ok(Some(_)) => println!("a broken lease time"),
+        Ok(None) => println!("no lease time"),
+        Err(refusal) => println!("the message is refused: {} at {}", refusal.rule.number(), refusal.place),
     }
-    let mut step = address_step(addresses(data(&message, 3)));
-    while step.given {
-        println!("router: {}", std::net::Ipv4Addr::from(step.address));
-        step = address_step(step.reader);
+    for address in (AddressReader { list: data(&message, 3), at: 0 }) {
+        println!("router: {}", std::net::Ipv4Addr::from(address));
     }
 }

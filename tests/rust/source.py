@@ -14,8 +14,9 @@ import tempfile
 
 os.chdir(os.path.join(os.path.dirname(os.path.abspath(__file__)), "..", ".."))
 HERE = os.getcwd()
-CLAUSE = r"\n    (?:requires|ensures)(?: \w+)? \{ [^\n]*\}"
-PROOF = r'#\[(?:tactic|cycle)\([^\]"]*\)\]\n'
+CLAUSE = r"\n    (?:    )?(?:requires|ensures)(?: \w+)? \{ [^\n]*\}"
+MEMBER = re.compile(r"    ghost \w+(?: =|:) \{[^;\"]*\};\n\n?")
+PROOF = r' *#\[(?:tactic|cycle)\([^\]"]*\)\]\n'
 PROVED = re.compile(r"\n?(?://[^\n]*\n)*(?:" + PROOF + r")?pub fn proved\(\)(?:" + CLAUSE + r")+\n\{\}\n")
 
 
@@ -39,10 +40,15 @@ def allowed(rule, off, added, before, after, crates):
     """Whether an edit is of its kind: what is taken off, what is added, and what stands before and after in the source."""
     starts = before == "" or before.endswith("\n")
     if rule == "ghost":
-        return starts and added == "" and re.fullmatch(r"ghost use [^;\n]+;\n", off)
+        member = (MEMBER.fullmatch(off) or re.fullmatch(r"    ghost use [^;\n]+;\n\n?", off)) and off.count("{") == off.count("}") and re.match(r" {4}\S|\}", after)
+        return starts and added == "" and (member or re.fullmatch(r"ghost use [^;\n]+;\n", off))
+    if rule == "drop":
+        line = before[before.rfind("\n") + 1:] + off + after[:after.find("\n")]
+        alone = off == "#[derive(Drop)]\n" and starts
+        return added == "" and (alone or (off in (", Drop", "Drop, ") and re.fullmatch(r"#\[derive\([A-Za-z, ]+\)\]", line)))
     if rule == "clause":
         balanced = off.count("{") == off.count("}")
-        return balanced and added == "" and re.fullmatch(CLAUSE, off) and re.match(r"\n(\{|    (requires|ensures) )", after)
+        return balanced and added == "" and re.fullmatch(CLAUSE, off) and re.match(r"\n *(\{|(requires|ensures) )", after)
     if rule == "proof":
         head = re.fullmatch(r"#!\[tactic\(auto\)\]\n(\n?)", off)
         if head:
@@ -59,10 +65,10 @@ def allowed(rule, off, added, before, after, crates):
             return off == "" and added == "!"
         rest = after.split("\n")
         below = next(line for line in rest[1:] if not line.startswith("//"))
-        return off == "" and added == "/" and before.endswith("\n//") and re.match(r"(#\[|pub |fn |struct |enum |const )", below)
+        return off == "" and added == "/" and before.endswith("\n//") and re.match(r"(#\[|pub |fn |struct |enum |const |trait )", below)
     if rule == "use":
-        names = re.fullmatch(r"use super::\{([a-z_, ]+)\};\n", added)
-        return starts and off == "" and names and set(names.group(1).split(", ")) <= crates | {"std"}
+        names = re.fullmatch(r"(?:use super::\{([a-z_, ]+)\};\n)?(?:use super::std::[A-Za-z]+;\n)*", added)
+        return starts and off == "" and added and names and (not names.group(1) or set(names.group(1).split(", ")) <= crates | {"std"})
     return rule == "let_else" and turned(off, added)
 
 
@@ -156,6 +162,62 @@ fn g(n: usize)
     return;
 }
 
+// A rule.
+#[derive(Clone, Copy, Debug, PartialEq, Eq, Drop)]
+enum Rule {
+    First = 1,
+    Last = 26,
+}
+
+#[derive(Drop)]
+struct Bytes<'a>(&'a [u8]);
+
+impl Rule {
+    // Its number.
+    fn number(self) -> u32
+        ensures { result ≡ number_of self }
+    {
+        self as u32
+    }
+}
+
+impl From<Rule> for u64 {
+    ghost from_gives = { λ r n. n ≡ record { a = number_of r } };
+
+    fn from(rule: Rule) -> u64 {
+        u64::from(rule.number())
+    }
+}
+
+impl<'a> Iterator for Bytes<'a> {
+    type Item = &'a u8;
+
+    ghost next_gives = { YieldsFirst
+        (λ s. s.0.now) };
+
+    ghost remaining = { item_count (λ s. s.0.now) };
+
+    #[tactic(none)]
+    fn next(&mut self) -> Option<&'a u8> {
+        let (first, others) = self.0.split_first()?;
+        self.0 = others;
+        Some(first)
+    }
+}
+
+// Of a size that is known.
+fn small<const N: usize, const END: bool>(a: [u8; N], b: &[u8]) -> Result<usize, Rule>
+    ensures { x }
+{
+    if let Some(i) = b.iter().rposition(|x| *x != 0) {
+        return Ok(i);
+    }
+    match b.first() {
+        Some(0..=9) if END => Err(Rule::First),
+        _ => Ok(small::<N, false>(a, b)?),
+    }
+}
+
 // The first.
 #[tactic(auto, using(one, two_of), unfolding(three))]
 pub fn f(m: &[u8]) -> usize
@@ -199,6 +261,51 @@ fn g(n: usize)
     return;
 }
 
+/// A rule.
+#[derive(Clone, Copy, Debug, PartialEq, Eq)]
+enum Rule {
+    First = 1,
+    Last = 26,
+}
+
+struct Bytes<'a>(&'a [u8]);
+
+impl Rule {
+    // Its number.
+    fn number(self) -> u32
+    {
+        self as u32
+    }
+}
+
+impl From<Rule> for u64 {
+    fn from(rule: Rule) -> u64 {
+        u64::from(rule.number())
+    }
+}
+
+impl<'a> Iterator for Bytes<'a> {
+    type Item = &'a u8;
+
+    fn next(&mut self) -> Option<&'a u8> {
+        let (first, others) = self.0.split_first()?;
+        self.0 = others;
+        Some(first)
+    }
+}
+
+/// Of a size that is known.
+fn small<const N: usize, const END: bool>(a: [u8; N], b: &[u8]) -> Result<usize, Rule>
+{
+    if let Some(i) = b.iter().rposition(|x| *x != 0) {
+        return Ok(i);
+    }
+    match b.first() {
+        Some(0..=9) if END => Err(Rule::First),
+        _ => Ok(small::<N, false>(a, b)?),
+    }
+}
+
 /// The first.
 pub fn f(m: &[u8]) -> usize
 {
@@ -211,23 +318,24 @@ pub fn f(m: &[u8]) -> usize
 F = "pub fn f(m: &[u8]) -> usize\n{\n    "
 # What is refused: the text, and the line of the fault, counted in the text; 0 stands for the file as a whole.
 REFUSED = [
-    (F + "println!();\n    1\n}\n", 3), (F + "unsafe { 1 }\n}\n", 3), ("static X: u8 = 1;\n", 1), ("pub fn f<T>(m: T) -> usize\n{\n    1\n}\n", 1),
-    ("impl S {}\n", 1), ("trait T {}\n", 1), ("mod x;\n", 1), ("type T = u8;\n", 1), ("ghost let x = 1;\n", 1), ("ghost fn g() {}\n", 1),
-    (F + "ghost use x.{y};\n    1\n}\n", 3), ("  ghost use x.{y};\n", 1), ("/* a */\n", 1), ("/// a\n", 1), (F + "m.first()\n}\n", 3), (F + "m.len().min(3)\n}\n", 3),
-    (F + "g()?;\n    1\n}\n", 3), (F + "if let E::A = e() {\n    }\n    1\n}\n", 3), (F + "match 1 {\n        x if x == 1 => 2,\n        _ => 3,\n    }\n}\n", 4),
-    (F + "match 1 {\n        0..=3 => 2,\n        _ => 3,\n    }\n}\n", 4), ("#[inline]\nfn g() {}\n", 1), ("#[derive(Clone)]\nstruct S {}\n", 1),
+    (F + "println!();\n    1\n}\n", 3), (F + "unsafe { 1 }\n}\n", 3), ("static X: u8 = 1;\n", 1), ("pub fn f<T>(m: T) -> usize\n    where T: Copy\n{\n    1\n}\n", 2),
+    ("impl S {}\n", 1), ("trait T where Self: Copy {}\n", 1), ("impl E {\n    #[inline]\n    fn g() {}\n}\n", 2), ("impl E {\n    static X: u8 = 1;\n}\n", 2), ("mod x;\n", 1), ("type T = u8;\n", 1), ("ghost let x = 1;\n", 1), ("ghost fn g() {}\n", 1),
+    (F + "ghost use x.{y};\n    1\n}\n", 3), ("  ghost use x.{y};\n", 1), ("/* a */\n", 1), ("/// a\n", 1), (F + "m.to_vec()\n}\n", 3), (F + "m.len().pow(3)\n}\n", 3), ("fn g<T: Drop>(x: T) {}\n", 1), ("fn g<const N: E>() {}\n", 1), ("fn g<T = u8>() {}\n", 1),
+    ("impl E {\n    ghost x = { a };    fn g() {}\n}\n", 2), ("impl E {\n    ghost x = { a \"}\" };\n}\n", 2), ("impl E {\n    ghost x = a;\n}\n", 2),
+    (F + "if let E::A = e() {\n    }\n    1\n}\n", 3), (F + "match 1 {\n        0..3 => 2,\n        _ => 3,\n    }\n}\n", 4),
+    (F + "match 1 {\n        0..=x => 2,\n        _ => 3,\n    }\n}\n", 4), ("#[cold]\nfn g() {}\n", 1), ("#[derive(Serialize)]\nstruct S {}\n", 1),
     (F + "std::mem::size()\n}\n", 3), (F + "other::g()\n}\n", 3), (F + "Unknown { a: 1 };\n    1\n}\n", 3), ("fn g(x: Unknown) {}\n", 1),
     (F + "match 1 {\n        ELSEWHERE => 2,\n        _ => 3,\n    }\n}\n", 4), (F + "fn g() {}\n    1\n}\n", 3), (F + "'a: loop {}\n}\n", 3),
     (F + "let x = 'a';\n    1\n}\n", 3), (F + 'let x = "a";\n    1\n}\n', 3), (F + "let x = 1.5;\n    1\n}\n", 3), ("\tfn g() {}\n", 1), (F + "λ\n}\n", 3),
     ("pub fn proved()\n    ensures { x }\n{ f(); }\n", 1), ("pub fn proved(x: u8)\n    ensures { x }\n{}\n", 1), ("pub fn proved()\n{}\n", 1),
     ('pub extern "C" fn g() {}\n', 1), ('#[unsafe(no_mangle)]\npub fn g() {}\n', 0), ('pub extern "Rust" fn g() {}\n', 1), (F + "1 as bool\n}\n", 3),
-    (F + "let g = |x| x;\n    1\n}\n", 3), (F + "let E::A = e();\n    1\n}\n", 3), (F + "let (a, b) = g();\n    1\n}\n", 3), ("use leaf::{A, B};\n", 1), ("use elsewhere::A;\n", 1),
-    ("use std::{A as B};\n", 1), ("use std::*;\n", 1), ("use std::A::B;\n", 1), ("#[derive(Clone, Copy, Debug)]\nstruct S {}\n", 1), ("#[unsafe(naked)]\nfn g() {}\n", 1),
+    (F + "let E::A = e();\n    1\n}\n", 3), (F + "let g = async |x| x;\n    1\n}\n", 3), ("use leaf::{A, B};\n", 1), ("use elsewhere::A;\n", 1),
+    ("use std::{A as B};\n", 1), ("use std::*;\n", 1), ("use std::A::B;\n", 1), ("#[derive(Clone, Display)]\nstruct S {}\n", 1), ("#[unsafe(naked)]\nfn g() {}\n", 1),
     ("#[no_mangle ]\nfn g() {}\n", 0), ("#[tactic(auto)] fn g() {}\n", 1), ("#[tactic(auto)]\nstruct S {}\n", 1), ("fn g() {}\n#![tactic(auto)]\n", 2),
     ("#![no_std]\n", 1), ("#![tactic(auto)]\n", 1), ("#![tactic(grind)]\n", 1), ("#[cycle(\"x\")]\nfn g() {}\n", 1), ("#[repr(C)]\n#[derive(Clone, Copy)]\nenum E {}\n", 1),
     ("fn g()\n    requires { a \"}\" }\n{}\n", 2), ("fn g()\n    requires { a -- }\n }\n{}\n", 2), ("fn g()\n    requires { {- } -} }\n{}\n", 2), ("fn g()\n    requires { a\n{}\n", 2),
     ("fn g() requires { a }\n{}\n", 1), ("fn g()\n    decreases { a }\n{}\n", 2), ("fn g()\n    ensures { a } {}\n", 2), (F + "loop {\n        break 1;\n    }\n}\n", 4),
-    ("struct S(u8);\n", 1), (F + "u64::pow(2, 3);\n    1\n}\n", 3), (F + "x.0\n}\n", 3), ("pub(crate) fn g() {}\n", 1), ("async fn g() {}\n", 1), ("const fn g() {}\n", 1),
+    ("#[repr(C)]\nstruct S(u8);\n", 2), (F + "u64::pow(2, 3);\n    1\n}\n", 3), (F + "x.await\n}\n", 3), ("pub(crate) fn g() {}\n", 1), ("async fn g() {}\n", 1), ("const fn g() {}\n", 1),
     (F + "let x = &&m;\n    1\n}\n", 3), (F + "S { ..s };\n    1\n}\n", 3), (F + "let x;\n    1\n}\n", 3), (F + "f(m)(1)\n}\n", 3), (F + "self.x\n}\n", 3), ("fn g(x: str) {}\n", 1),
     ("fn g(x: Vec<u8>) {}\n", 1), (F + "let r = r#\"x\"#;\n    1\n}\n", 3), (F + "while let E::A = e() {}\n    1\n}\n", 3), (F + "1u128 as usize\n}\n", 3), ("fn g()", 1),
 ]
@@ -287,10 +395,10 @@ def check_finds(out):
     edits = [(int(r), int(c), rule, json.loads(off), json.loads(on)) for r, c, rule, off, on in
              (re.fullmatch(r"    (\d+):(\d+) (\w+) - (\".*\") \+ (\".*\")", line).groups() for line in lines)]
     crates = {"num"}
-    if taken_back(made, edits, source, crates) != source or taken_back(made.replace("* 256", "* 255", 1), edits, source, crates) == source:
+    if taken_back(made, edits, source, crates) != source or taken_back(made.replace("from_be_bytes", "from_le_bytes", 1), edits, source, crates) == source:
         raise SystemExit("failed: a changed byte is not found")
-    body = "    x as usize\n"
-    for rule in ("ghost", "clause", "no_mangle", "extern", "proved", "proof", "doc", "use", "let_else"):
+    body = "    usize::from(x)\n"
+    for rule in ("ghost", "clause", "no_mangle", "extern", "proved", "proof", "doc", "use", "let_else", "drop"):
         at = source.index(body)
         if allowed(rule, body, "", source[:at], source[at + len(body):], crates) or allowed(rule, "", body, source[:at], source[at:], crates):
             raise SystemExit(f"failed: code that is taken off or added passes as {rule}")

@@ -1,4 +1,4 @@
--- What the code's own functions are held to: no public contract rests on this. Assumes nothing.
+-- The field that holds a place, which the contract of `span_at` rests on; and what the functions below the calls are held to. Assumes nothing.
 use Rattle.std.specs.Prelude.{cond, List, ℕ, ◌+◌, ◌-◌, eqb, ltb, leb, Option, Some, None}
 use Rattle.options.specs.Kinds.{text, unless, ascii, broken, value_fault_value, meaning}
 use Rattle.options.specs.Answers as asked

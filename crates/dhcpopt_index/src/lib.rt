@@ -56,6 +56,7 @@ fn unsigned(kind: u32, n: u32) -> PlainContent
 
 // What data that keep the rules of a row mean.
 #[tactic(auto, using(lookup::proofs::Rows::kind_told), unfolding(options::specs::Kinds::meaning))]
+#[inline(always)]
 fn value(row: u8, d: &[u8]) -> PlainContent
     ensures { result ≡ plain_content (asked.known (meaning (kind_at (kind_numbered row)) d.now)) }
 {

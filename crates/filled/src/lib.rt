@@ -41,7 +41,7 @@ impl From<Result<usize, Refusal>> for PlainFilled {
     }
 }
 
-// Copies xs to the front of a lent buffer where it has room, and gives their number; else 11, and no byte.
+// Copies xs to the front of a lent buffer where it has room, and gives their number; else a refusal, and no byte.
 pub fn give(xs: &[u8], out: &mut [u8]) -> Result<usize, Refusal>
     ensures { Fills (filled_with xs.now out.old) result out.new }
 {

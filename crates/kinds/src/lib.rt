@@ -86,7 +86,8 @@ pub fn kind_of(row: u8) -> u8
     row % 16
 }
 
-// The same by its name; none for no row.
+// The same by its name; none for no row. It is put into its callers, whose match on the name the compiler then makes one with this.
+#[inline(always)]
 pub fn kind_in(row: u8) -> Option<OptionKind>
     ensures { kind_given result ≡ kind_from (kind_numbered row) }
 {
@@ -132,7 +133,7 @@ pub fn text_fits(t: &[u8]) -> bool
     t[..text_len(t)].iter().all(|x| from_to(*x, 1, 127))
 }
 
-// How the data d breaks the row of the code c (document 01, The kinds, and Numbers given on refusal): 8 by its length, 9 by its value, and 0 where it
+// How the data d breaks the row of the code c (document 01, The kinds, and Numbers given on refusal): by its length or by its value; none where it
 // doesn't or there is no row.
 pub fn fault(c: u8, d: &[u8]) -> Option<Fault>
     ensures { fault_or_none result ≡ fault_of c d.now }
@@ -398,7 +399,7 @@ fn destinations_fit(d: &[u8]) -> bool
 // The fault of sub-options that run past the data.
 const PAST: Fault = Fault::Length;
 
-// 82: whether its sub-options, each a code, a length and so many bytes, fill the data exactly; 8 where one runs past.
+// 82: whether its sub-options, each a code, a length and so many bytes, fill the data exactly: a fault of length where one runs past.
 pub fn suboptions_fault(d: &[u8]) -> Option<Fault>
     ensures { fault_or_none result ≡ fill_fault (sub_options 0 0 d.now) }
 {

@@ -22,7 +22,7 @@ use kinds::OptionKind;
 use message::{Field, Scanned};
 use refusal::{Fault, Refusal, Rule};
 
-// What is answered of an option, wherever it stands (document 01, What is asked of a message): unknown, with the length of its data; broken, with 8 or 9; or
+// What is answered of an option, wherever it stands (document 01, What is asked of a message): unknown, with the length of its data; broken, by its length or its value; or
 // its kind, with the number or the length.
 #[derive(Clone, Copy)]
 pub enum Content {
@@ -80,6 +80,7 @@ pub fn proved()
 
 // What n bytes of data that keep the rules of a row mean, of which d has as many as the row's kind needs.
 #[tactic(auto, using(crate::proofs::Rows::kind_told), unfolding(crate::specs::Found::meaning_of))]
+#[inline(always)]
 fn value(row: u8, n: usize, d: &[u8]) -> Content
     ensures { content_of result ≡ asked.known (meaning_of (kind_at (kind_numbered row)) n d.now) }
 {
@@ -102,6 +103,7 @@ fn value(row: u8, n: usize, d: &[u8]) -> Content
 }
 
 // The same of data that a fault may break.
+#[inline(always)]
 fn judged(row: u8, n: usize, fault: Option<Fault>, d: &[u8]) -> Content
     ensures { content_of result ≡ asked.known (unless (fault_or_none fault) (meaning_of (kind_at (kind_numbered row)) n d.now)) }
 {
@@ -132,6 +134,7 @@ fn row_of(known: [u64; 4], code: u8) -> Option<u8>
 }
 
 // What is answered of a code with the data d, by its row.
+#[inline(always)]
 fn judge(row: Option<u8>, d: &[u8]) -> Content
     ensures { content_of result ≡ content_in row d.now }
 {

@@ -16,9 +16,8 @@ const ROW_82: u8 = 12;
 
 const ROW_121: u8 = 13;
 
-// Words and no array: an array would be built anew on the stack at each call, and took 27 to 240 instructions (docs/PERFORMANCE.md).
 // Eight ranges of codes, one behind the other, or fewer: the first code of each, and the number of the row that its codes have. A byte is a range, the lowest
-// byte the first; one that is not used begins at 128.
+// byte the first; one that is not used begins at 128. Words and no array: an array would be built anew on the stack at each call, and took 27 to 240 instructions (docs/PERFORMANCE.md).
 #[derive(Clone, Copy)]
 struct Ranges {
     firsts: u64,
@@ -119,8 +118,8 @@ fn above(c: u8) -> u8
     0
 }
 
-// A number and no Option: with the kind in its low four bits a rule is chosen by one test, which was measured (docs/PERFORMANCE.md).
 // The number of the row of the code c: that of its kind, and 16 for each row of that kind before it; 0 for none.
+// A number and no Option: with the kind in its low four bits a rule is chosen by one test, which was measured (docs/PERFORMANCE.md).
 pub fn row(c: u8) -> u8
     ensures { result ≡ row_number c }
 {

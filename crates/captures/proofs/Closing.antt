@@ -6,7 +6,8 @@ use native.Mathlib.Decide.{dec_lt}
 use Rattle.options.specs.Reading.{Reading, refused, read_message}
 use Rattle.options.specs.Captures.{if_accepted, if_refused_by, if_holds, joined_size, lease_time, widened, Lease, no_lease, leases, Tally, raised, noted_as, noted}
 use Rattle.tally.specs.Noted.{lease_in, time_in_value, widened_by, Raises, verdict_count, Notes, Lent}
-use Rattle.captures.specs.Standing.{Progress, wrap, wrapped, closed64, Holds, before_record, Small, Stands, behind_of, NotesKept, Closes}
+use Rattle.captures.specs.declared.Progress.{Progress}
+use Rattle.captures.specs.Standing.{wrap, wrapped, closed64, Holds, before_record, Small, Stands, behind_of, NotesKept, Closes}
 
 raised_length : (f : ℕ → ℕ) (c : ℕ) (xs : List ℕ) → length (raised f c xs) ≡ length xs
 unfolding raised

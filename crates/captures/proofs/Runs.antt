@@ -2,7 +2,8 @@
 use Rattle.std.proofs.Common.{◌≡◌, ℕ, zero, suc, ◌+◌, ◌-◌, ◌*◌, ◌<◌, ◌≤◌, min, Bool, true, false, cond, eqb, ltb, ◌⊎◌, List, [], ◌∷◌, ◌++◌, length, get_or, take, drop, sym, refl, ap, ◌∙◌, subst, inl, inr, arith, length-drop, length-take, length-take-le, take_all, append_assoc, append-nil, ltb-true, eqb-true}
 use Rattle.std.proofs.lemmas.List.{take-append-drop}
 use Rattle.options.specs.Captures.{most_messages}
-use Rattle.captures.specs.Standing.{Progress, taken_value, tidied, Takes, Feeds, Whole, Fitting}
+use Rattle.captures.specs.declared.Progress.{Progress}
+use Rattle.captures.specs.Standing.{taken_value, tidied, Takes, Feeds, Whole, Fitting}
 use Rattle.captures.proofs.Stages.{takes_then, takes_none}
 
 one_byte : (xs : List ℕ) → length xs ≡ 1 → xs ≡ get_or xs 0 0 ∷ []

@@ -4,7 +4,8 @@ use Rattle.options.specs.Captures.{most_messages, Tally, Stage, at_tag, at_high,
 use Rattle.options.specs.Reading.{read_message}
 use Rattle.std.specs.Prelude as code
 use Rattle.tally.specs.Noted.{Notes}
-use Rattle.captures.specs.Standing.{Progress, taken_value, closed64, within64, step_in64, fed64, Holds, StageIs, before_record, after_tag, after_high, in_message, was_refused, Stands, Takes, behind_of, Closes, Whole, Keeps}
+use Rattle.captures.specs.declared.Progress.{Progress}
+use Rattle.captures.specs.Standing.{taken_value, closed64, within64, step_in64, fed64, Holds, StageIs, before_record, after_tag, after_high, in_message, was_refused, Stands, Takes, behind_of, Closes, Whole, Keeps}
 use Rattle.captures.proofs.Closing.{closes_as}
 
 -- ---- The running tally, over bytes

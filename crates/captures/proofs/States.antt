@@ -9,7 +9,8 @@ use Rattle.captures_theorems.proofs.Reports.{all_append}
 use Rattle.tally.specs.declared.Lease as coded
 use Rattle.std.specs.Prelude.{Option, Some, None}
 use Rattle.tally.specs.Noted.{lease_of, lease_in}
-use Rattle.captures.specs.Standing.{Progress, wrap, wrapped, within64, step_in64, fed64, NeverWraps, StageIs, before_record, after_tag, after_high, in_message, was_refused, Stands, Feeds, tidied, stage_numbered, kept_of, stage_of, EveryStateStands, StandingIsTidy}
+use Rattle.captures.specs.declared.Progress.{Progress}
+use Rattle.captures.specs.Standing.{wrap, wrapped, within64, step_in64, fed64, NeverWraps, StageIs, before_record, after_tag, after_high, in_message, was_refused, Stands, Feeds, tidied, stage_numbered, kept_of, stage_of, EveryStateStands, StandingIsTidy}
 
 -- ---- Any numbers
 

@@ -4,26 +4,14 @@ use Rattle.options.specs.KindClaims.{AllBytes}
 use Rattle.options.specs.Captures.{most_messages, Tally, noted, noted_as, Stage, at_tag, at_high, at_low, inside, stopped, Run, begun, within, step_in, fed}
 use Rattle.options.specs.Reading.{read_message, refused}
 use Rattle.std.specs.Prelude.{Option, None}
-use Rattle.tally.specs.declared.Lease.{Lease}
 use Rattle.tally.specs.Noted.{lease_of, lease_in, widened_by, Lent, Notes}
-use Rattle.captures.specs.declared.Progress as coded
+use Rattle.captures.specs.declared.Progress.{Progress}
+use Rattle.captures.specs.declared.Standing as coded
 use Rattle.captures.specs.declared.Stage as coded_stage
 use Rattle.captures.specs.declared.Stage.TheVariants.{Tag, High, Low, Message, Stopped}
 
--- ---- Where reading is, in numbers
+-- ---- Where reading is as a part is taken, in the numbers of `Progress`: its stage, case by case
 
--- the place of the record's first byte in the file; 0 before a record or in its message, 1 after its tag, 2 after its high length byte, 3 where a record was refused; that byte;
--- the length of the message that is read, and how many of its bytes were. Then the messages that were seen, and their lease times
-pub record Progress : Type 0 where
-  pub began : ℕ
-  pub stage : ℕ
-  pub high : ℕ
-  pub size : ℕ
-  pub read : ℕ
-  pub messages : ℕ
-  pub lease : Option Lease
-
--- the same as the code holds it: its stage, case by case
 pub record StageTold : Type 0 where
   pub stage : ℕ
   pub high : ℕ
@@ -37,16 +25,16 @@ told_at (Low h) = record { stage = 2; high = h; size = 0; read = 0 }
 told_at (Message n k) = record { stage = 0; high = 0; size = n; read = k }
 told_at Stopped = record { stage = 3; high = 0; size = 0; read = 0 }
 
-abbrev pub told_by : coded.Progress → Progress
-told_by p =
+abbrev pub told_by : coded.Standing → Progress
+told_by q =
     record {
-      began = p.began;
-      stage = (told_at p.stage).stage;
-      high = (told_at p.stage).high;
-      size = (told_at p.stage).size;
-      read = (told_at p.stage).read;
-      messages = p.messages;
-      lease = p.lease;
+      began = q.began;
+      stage = (told_at q.stage).stage;
+      high = (told_at q.stage).high;
+      size = (told_at q.stage).size;
+      read = (told_at q.stage).read;
+      messages = q.messages;
+      lease = q.lease;
     }
 
 -- ---- [H4, H5] The running tally of any numbers: as `Captures.fed`, but that what a message adds is kept in 64 bits

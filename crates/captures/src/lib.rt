@@ -9,8 +9,22 @@ ghost use Rattle.captures.specs.Standing.{told_by, taken_value, tidied as tidy, 
 use refusal::Rule;
 use tally::{Lease, Tally};
 
-// Where reading is: before a record's tag, its high length byte or its low one; in its message, of which so many bytes were read; or behind a record that was
-// refused.
+// Where reading is. began: the place of the record's first byte in the file; stage: 0 before a record or in its message, 1 after its tag, 2 after its high length
+// byte, 3 where a record was refused; high: that byte; size: the length of the message that is read, and read: how many of its bytes were. Then the messages
+// that were seen, and their lease times. Numbers, and no enum: a caller may lend any, and the contracts say what follows from them.
+#[derive(Clone, Copy)]
+pub struct Progress {
+    pub began: u64,
+    pub stage: u32,
+    pub high: u8,
+    pub size: usize,
+    pub read: usize,
+    pub messages: u64,
+    pub lease: Option<Lease>,
+}
+
+// The stage as a part is taken: before a record's tag, its high length byte or its low one; in its message, of which so many bytes were read; or behind a record that
+// was refused.
 #[derive(Clone, Copy)]
 pub enum Stage {
     Tag,
@@ -20,28 +34,78 @@ pub enum Stage {
     Stopped,
 }
 
-// How far the file was read: the place of the record's first byte, and where in it reading is; then the messages that were seen, and their lease times.
+// Where reading is, as a part is taken.
 #[derive(Clone, Copy)]
-pub struct Progress {
+pub struct Standing {
     pub began: u64,
     pub stage: Stage,
     pub messages: u64,
     pub lease: Option<Lease>,
 }
 
-impl Progress {
+// A caller may lend any numbers: a stage above 3 is 3, and a message with no byte to come is none.
+impl From<Progress> for Standing {
+    ghost from_gives = { λ p q. told_by q ≡ tidy p };
+
+    fn from(p: Progress) -> Standing {
+        let stage = if p.read < p.size {
+            Stage::Message {
+                size: p.size,
+                read: p.read,
+            }
+        } else {
+            match p.stage {
+                0 => Stage::Tag,
+                1 => Stage::High,
+                2 => Stage::Low { high: p.high },
+                _ => Stage::Stopped,
+            }
+        };
+        Standing {
+            began: p.began,
+            stage,
+            messages: p.messages,
+            lease: p.lease,
+        }
+    }
+}
+
+impl From<Standing> for Progress {
+    ghost from_gives = { λ q p. p ≡ told_by q };
+
+    fn from(q: Standing) -> Progress {
+        let (stage, high, size, read) = match q.stage {
+            Stage::Tag => (0, 0, 0, 0),
+            Stage::High => (1, 0, 0, 0),
+            Stage::Low { high } => (2, high, 0, 0),
+            Stage::Message { size, read } => (0, 0, size, read),
+            Stage::Stopped => (3, 0, 0, 0),
+        };
+        Progress {
+            began: q.began,
+            stage,
+            high,
+            size,
+            read,
+            messages: q.messages,
+            lease: q.lease,
+        }
+    }
+}
+
+impl Standing {
     // The same record, at another stage.
-    fn at(self, stage: Stage) -> Progress
+    fn at(self, stage: Stage) -> Standing
         ensures { result ≡ record { began = self.began; stage = stage; messages = self.messages; lease = self.lease } }
     {
-        Progress { stage, ..self }
+        Standing { stage, ..self }
     }
 
     // Behind a message of `size` bytes with this lease time: the next record begins there.
-    fn behind(self, size: usize, time: Option<u32>) -> Progress
+    fn behind(self, size: usize, time: Option<u32>) -> Standing
         ensures { told_by result ≡ behind_of (told_by self) size time }
     {
-        Progress {
+        Standing {
             began: self.began.wrapping_add(3).wrapping_add(size as u64),
             stage: Stage::Tag,
             messages: self.messages.wrapping_add(1),
@@ -63,7 +127,7 @@ fn note(size: usize, message: &[u8], tally: &mut Tally) -> Option<u32>
 }
 
 // Closes a message.
-fn close(p: Progress, size: usize, message: &[u8], tally: &mut Tally) -> Progress
+fn close(p: Standing, size: usize, message: &[u8], tally: &mut Tally) -> Standing
     ensures same { StaysLent tally.old tally.new }
     ensures closes { Closes size (told_by p) message.now tally.old.verdicts.now tally.old.held.now tally.old.bytes.now (told_by result) tally.new.verdicts.now tally.new.held.now tally.new.bytes.now }
 {
@@ -79,7 +143,7 @@ fn is_taken(tag: u8, messages: u64) -> bool
 }
 
 // One byte of a record's head. A message with no byte to come is none.
-fn head(b: u8, p: Progress, message: &[u8], tally: &mut Tally) -> Progress
+fn head(b: u8, p: Standing, message: &[u8], tally: &mut Tally) -> Standing
     ensures same { StaysLent tally.old tally.new }
     ensures takes { (told_by p).size ≤ (told_by p).read → Takes (b ∷ []) (told_by p) message.now tally.old.verdicts.now tally.old.held.now tally.old.bytes.now (told_by result) message.now tally.new.verdicts.now tally.new.held.now tally.new.bytes.now }
 {
@@ -117,12 +181,12 @@ fn keep(message: &mut [u8], size: usize, read: usize, run: &[u8])
 // Bytes of a message, at most as many as are still to come.
 fn take_message(
     run: &[u8],
-    p: Progress,
+    p: Standing,
     size: usize,
     read: usize,
     message: &mut [u8],
     tally: &mut Tally,
-) -> Progress
+) -> Standing
     requires { ((told_by p).size ≡ size) × ((told_by p).read ≡ read) × (read < size) × (read + length run.now ≤ size) × (0 < length run.now) }
     ensures same { StaysLent tally.old tally.new }
     ensures takes { Takes run.now (told_by p) message.old tally.old.verdicts.now tally.old.held.now tally.old.bytes.now (told_by result) message.new tally.new.verdicts.now tally.new.held.now tally.new.bytes.now }
@@ -136,7 +200,7 @@ fn take_message(
 }
 
 // A record of which all bytes are there: its message is noted where it stands.
-fn take_record(run: &[u8], p: Progress, tally: &mut Tally) -> Progress
+fn take_record(run: &[u8], p: Standing, tally: &mut Tally) -> Standing
     requires { ((told_by p).stage ≡ 0) × ((told_by p).size ≤ (told_by p).read) × Whole (told_by p).messages run.now }
     ensures same { StaysLent tally.old tally.new }
     ensures takes { (message : List ℕ) → Takes run.now (told_by p) message tally.old.verdicts.now tally.old.held.now tally.old.bytes.now (told_by result) message tally.new.verdicts.now tally.new.held.now tally.new.bytes.now }
@@ -147,7 +211,7 @@ fn take_record(run: &[u8], p: Progress, tally: &mut Tally) -> Progress
 }
 
 // Bytes of one record.
-fn take_run(run: &[u8], p: Progress, message: &mut [u8], tally: &mut Tally) -> Progress
+fn take_run(run: &[u8], p: Standing, message: &mut [u8], tally: &mut Tally) -> Standing
     requires { Fitting (told_by p) run.now }
     ensures same { StaysLent tally.old tally.new }
     ensures takes { Takes run.now (told_by p) message.old tally.old.verdicts.now tally.old.held.now tally.old.bytes.now (told_by result) message.new tally.new.verdicts.now tally.new.held.now tally.new.bytes.now }
@@ -182,7 +246,7 @@ fn record_length(rest: &[u8], messages: u64) -> usize
 }
 
 // How many of the next bytes are taken at once.
-fn run_length(p: Progress, rest: &[u8]) -> usize
+fn run_length(p: Standing, rest: &[u8]) -> usize
     requires { 0 < length rest.now }
     ensures { (result ≤ length rest.now) × Fitting (told_by p) (take result rest.now) }
 {
@@ -195,32 +259,25 @@ fn run_length(p: Progress, rest: &[u8]) -> usize
 
 // Nothing was read yet. The lent numbers are to be zeros.
 pub fn begin() -> Progress
-    ensures { told_by result ≡ none_read }
+    ensures { result ≡ none_read }
 {
     Progress {
         began: 0,
-        stage: Stage::Tag,
+        stage: 0,
+        high: 0,
+        size: 0,
+        read: 0,
         messages: 0,
         lease: None,
-    }
-}
-
-// A caller may lend any Progress: a message with no byte to come is none.
-fn tidied(p: Progress) -> Progress
-    ensures { told_by result ≡ tidy (told_by p) }
-{
-    match p.stage {
-        Stage::Message { size, read } if size <= read => p.at(Stage::Tag),
-        _ => p,
     }
 }
 
 // Takes the next part of the file; message: what was read of a message that came in parts. Any numbers may be lent: they are those of the messages before.
 pub fn feed(part: &[u8], p: Progress, message: &mut [u8; 1472], tally: &mut Tally) -> Progress
     ensures same { StaysLent tally.old tally.new }
-    ensures feeds { Feeds part.now (told_by p) message.old tally.old.verdicts.now tally.old.held.now tally.old.bytes.now (told_by result) message.new tally.new.verdicts.now tally.new.held.now tally.new.bytes.now }
+    ensures feeds { Feeds part.now p message.old tally.old.verdicts.now tally.old.held.now tally.old.bytes.now result message.new tally.new.verdicts.now tally.new.held.now tally.new.bytes.now }
 {
-    let mut q = tidied(p);
+    let mut q = Standing::from(p);
     let mut rest = part;
     // No iterator: how far a step goes is read from the bytes.
     while rest.len() != 0 {
@@ -228,7 +285,7 @@ pub fn feed(part: &[u8], p: Progress, message: &mut [u8; 1472], tally: &mut Tall
         q = take_run(run, q, message, tally);
         rest = after;
     }
-    q
+    q.into()
 }
 
 // What the contracts rest on holds.

@@ -6,9 +6,8 @@ use Prim.Native.Nat.{ℕ}
 use lib.Dec.{eqb}
 use Rattle.std.specs.Prelude.{Option, Some, None}
 use Rattle.tally.specs.declared.Lease.{Lease}
-use Rattle.captures.specs.Standing.{Progress, tidied, Stands, Takes, Feeds}
-use Rattle.captures.proofs.States.{tidied_again}
-use Rattle.report.specs.Printed.{Reports}
+use Rattle.captures.specs.declared.Progress.{Progress}
+use Rattle.captures.specs.Standing.{Feeds}
 use Rattle.dhcpopt_captures.specs.declared.PlainProgress.{PlainProgress}
 use Rattle.dhcpopt_captures.specs.Plain.{progress_of_value, leases_of, smallest_of, largest_of, plain_of, FeedsPlain}
 
@@ -23,16 +22,10 @@ plain_kept p = ap (with_lease p) (by p.lease)
     by (Some l) = refl
 
 -- a call of feed
-pub feeds_plain : (part : List ℕ) (p r : PlainProgress) (x q : Progress) (m v h b m' v' h' b' : List ℕ) → x ≡ tidied (progress_of_value p) → r ≡ plain_of q → Feeds part x m v h b q m' v' h' b' → FeedsPlain part p m v h b r m' v' h' b'
+pub feeds_plain : (part : List ℕ) (p r : PlainProgress) (x q : Progress) (m v h b m' v' h' b' : List ℕ) → x ≡ progress_of_value p → r ≡ plain_of q → Feeds part x m v h b q m' v' h' b' → FeedsPlain part p m v h b r m' v' h' b'
 feeds_plain part p r x q m v h b m' v' h' b' d e t =
     let k : progress_of_value r ≡ q = ap progress_of_value e ∙ plain_kept q in
-    let y : tidied x ≡ tidied (progress_of_value p) = ap tidied d ∙ tidied_again (progress_of_value p) in
     record {
-      feeds = subst (λ (y : Progress). Feeds part (progress_of_value p) m v h b y m' v' h' b') (sym k) (subst (λ (y : Progress). Takes part y m v h b q m' v' h' b') y t);
+      feeds = subst (λ (y : Progress). Feeds part (progress_of_value p) m v h b y m' v' h' b') (sym k) (subst (λ (y : Progress). Feeds part y m v h b q m' v' h' b') d t);
       plain = e ∙ ap plain_of (sym k);
     }
-
--- and one of report
-pub reports_plain : (p : PlainProgress) (x : Progress) (v h b old : List ℕ) (r : ℕ) (after : List ℕ) → x ≡ tidied (progress_of_value p) → Reports x v h b old r after → Reports (progress_of_value p) v h b old r after
-reports_plain p x v h b old r after d t s message z =
-    t s message (subst (λ (y : Progress). Stands s y message v h b) (sym (ap tidied d ∙ tidied_again (progress_of_value p))) z)

@@ -25,7 +25,8 @@ use Rattle.tally.specs.declared.Lease as coded
 use Rattle.tally.specs.Noted.{lease_in}
 use Rattle.std.specs.Prelude as code
 use Rattle.captures.specs.Standing as standing
-use Rattle.captures.specs.Standing.{Progress, StageIs, Small, Stands, none_read}
+use Rattle.captures.specs.declared.Progress.{Progress}
+use Rattle.captures.specs.Standing.{StageIs, Small, Stands, none_read}
 use Rattle.captures.proofs.Beginning.{begun_empty}
 use Rattle.captures.proofs.States.{standing_is_tidy, fed_more}
 use Rattle.report.specs.Printed.{Reports}

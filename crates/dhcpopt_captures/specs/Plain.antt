@@ -1,7 +1,8 @@
 -- WHERE READING IS, AS C HOLDS IT: its struct, member by member. What each member says of the file is told in Told. Assumes nothing.
 use Rattle.std.specs.Prelude.{◌≡◌, cond, List, ℕ, eqb, replicate, Option, Some, None}
 use Rattle.tally.specs.declared.Lease.{Lease}
-use Rattle.captures.specs.Standing.{Progress, Feeds}
+use Rattle.captures.specs.declared.Progress.{Progress}
+use Rattle.captures.specs.Standing.{Feeds}
 use Rattle.dhcpopt_captures.specs.declared.PlainProgress.{PlainProgress}
 
 -- as any struct is taken: any number but 0 in `leases` says that there is a lease time

@@ -2,16 +2,14 @@
 #![tactic(auto)]
 
 ghost use Rattle.std.specs.Prelude.{◌≡◌, ◌≤◌, length};
-ghost use Rattle.captures.specs.Standing.{told_by, tidied};
 ghost use Rattle.report.specs.Printed.{Reports};
 ghost use Rattle.dhcpopt_captures.specs.Plain.{progress_of_value, plain_of, BeginsWith, FeedsPlain};
 ghost use Rattle.dhcpopt_captures.specs.Told.{BegunForC, FedForC, ProgressByCase, ProgressByCaseBoth, CapturesRefusedForC, CapturesReportedForC};
 
-use captures::{Progress, Stage};
+use captures::Progress;
 use tally::{Lease, Tally};
 
-// captures::Progress in numbers. stage: 0 before a record's tag or in its message, of which `read` of `size` bytes were read; 1 before its high length byte; 2 before
-// its low one, and then high is the high one; 3 behind a record that was refused. leases: 1 where there are lease times, else 0. Any numbers may be lent.
+// captures::Progress with its lease times. leases: 1 where there are any, else 0.
 #[repr(C)]
 #[derive(Clone, Copy)]
 pub struct PlainProgress {
@@ -27,22 +25,9 @@ pub struct PlainProgress {
 }
 
 impl From<PlainProgress> for Progress {
-    ghost from_gives = { λ p q. told_by q ≡ tidied (progress_of_value p) };
+    ghost from_gives = { λ p q. q ≡ progress_of_value p };
 
     fn from(p: PlainProgress) -> Progress {
-        let stage = if p.read < p.size {
-            Stage::Message {
-                size: p.size,
-                read: p.read,
-            }
-        } else {
-            match p.stage {
-                0 => Stage::Tag,
-                1 => Stage::High,
-                2 => Stage::Low { high: p.high },
-                _ => Stage::Stopped,
-            }
-        };
         let lease = if p.leases == 0 {
             None
         } else {
@@ -53,7 +38,10 @@ impl From<PlainProgress> for Progress {
         };
         Progress {
             began: p.began,
-            stage,
+            stage: p.stage,
+            high: p.high,
+            size: p.size,
+            read: p.read,
             messages: p.messages,
             lease,
         }
@@ -61,16 +49,9 @@ impl From<PlainProgress> for Progress {
 }
 
 impl From<Progress> for PlainProgress {
-    ghost from_gives = { λ q p. p ≡ plain_of (told_by q) };
+    ghost from_gives = { λ q p. p ≡ plain_of q };
 
     fn from(q: Progress) -> PlainProgress {
-        let (stage, high, size, read) = match q.stage {
-            Stage::Tag => (0, 0, 0, 0),
-            Stage::High => (1, 0, 0, 0),
-            Stage::Low { high } => (2, high, 0, 0),
-            Stage::Message { size, read } => (0, 0, size, read),
-            Stage::Stopped => (3, 0, 0, 0),
-        };
         let (leases, smallest, largest) = match q.lease {
             Some(l) => (1, l.smallest, l.largest),
             None => (0, 0, 0),
@@ -78,13 +59,13 @@ impl From<Progress> for PlainProgress {
         PlainProgress {
             began: q.began,
             messages: q.messages,
-            size,
-            read,
-            stage,
+            size: q.size,
+            read: q.read,
+            stage: q.stage,
             leases,
             smallest,
             largest,
-            high,
+            high: q.high,
         }
     }
 }

@@ -11,7 +11,7 @@ use Rattle.options.specs.Answers.{decimal, blank, newline, accepted_line, refuse
 use Rattle.options.specs.Captures.{Lease, no_lease, leases, refusals_word, lease_word, none_word, messages_word, messages_line, refusals_line, refusals_lines, code_word, code_line, code_lines, lease_line, last_line, Ending, at_end, stopped_at}
 use Rattle.text.proofs.Digits.{digits_within, digits_below}
 use Rattle.theorems.proofs.View.{clash}
-use Rattle.captures.specs.Standing.{Progress}
+use Rattle.captures.specs.declared.Progress.{Progress}
 use Rattle.report.specs.Printed.{more_text, line_text, is_open_value, last_text}
 
 -- ---- Lines made

@@ -11,7 +11,8 @@ use Rattle.options.specs.Answers.{accepted_word, accepted_line, refused_line}
 use Rattle.options.specs.Captures.{Lease, no_lease, leases, Tally, Stage, ending_in, Ending, stopped_at, Run, messages_word, messages_line, refusals_lines, code_lines, lease_line, last_line, report_of, report, report_so_far}
 use Rattle.captures_theorems.proofs.Runs.{run_is_the_file}
 use Rattle.tally.specs.Noted.{lease_of, lease_in}
-use Rattle.captures.specs.Standing.{Progress, StageIs, before_record, after_tag, after_high, in_message, was_refused, tidied, Stands}
+use Rattle.captures.specs.declared.Progress.{Progress}
+use Rattle.captures.specs.Standing.{StageIs, before_record, after_tag, after_high, in_message, was_refused, tidied, Stands}
 use Rattle.report.specs.Printed.{line_text, is_open_value, last_text, text_of, Reports, FileIsReported}
 use Rattle.text.specs.Text.{fitting, Puts}
 use Rattle.text.proofs.Putting.{puts_as, puts_more, puts_front}

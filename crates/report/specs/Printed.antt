@@ -3,7 +3,8 @@ use Rattle.std.specs.Prelude.{◌≡◌, Bool, true, cond, List, [], ◌∷◌, 
 use Rattle.options.specs.Answers.{decimal, blank, newline, accepted_line, refused_line}
 use Rattle.options.specs.Captures.{messages_line, refusals_lines, code_lines, lease_line, Run, begun, fed, report, report_so_far}
 use Rattle.tally.specs.Noted.{lease_of}
-use Rattle.captures.specs.Standing.{Progress, is_inside, tidied, Stands}
+use Rattle.captures.specs.declared.Progress.{Progress}
+use Rattle.captures.specs.Standing.{is_inside, tidied, Stands}
 
 -- [H6] whatever the numbers stand for, with any Progress: its report is put at the front of the buffer, and nothing else is
 abbrev pub Reports : Progress → List ℕ → List ℕ → List ℕ → List ℕ → ℕ → List ℕ → Type 0

@@ -5,10 +5,9 @@ ghost use Rattle.std.specs.Prelude.{◌≡◌, cond, [], ◌≤◌, eqb, length,
 ghost use Rattle.options.specs.Captures.{refusals_lines, code_line, code_lines, lease_line};
 ghost use Rattle.tally.specs.Noted.{lease_of};
 ghost use Rattle.text.specs.Text.{Puts};
-ghost use Rattle.captures.specs.Standing.{told_by};
 ghost use Rattle.report.specs.Printed.{line_text, is_open_value, last_text, Reports, FileIsReported};
 
-use captures::{Progress, Stage};
+use captures::Progress;
 use refusal::Rule;
 use tally::Lease;
 
@@ -75,18 +74,14 @@ fn put_lease(out: &mut [u8], at: usize, lease: Option<Lease>) -> usize
 }
 
 fn is_open(p: Progress) -> bool
-    ensures { result ≡ is_open_value (told_by p) }
+    ensures { result ≡ is_open_value p }
 {
-    match p.stage {
-        Stage::Tag => false,
-        Stage::Message { size, read } => read < size,
-        _ => true,
-    }
+    p.stage != 0 || p.read < p.size
 }
 
 // The refusal of the file, where a record is not whole or was refused.
 fn put_last(out: &mut [u8], at: usize, p: Progress) -> usize
-    ensures { Puts out.old at (last_text (told_by p)) result out.new }
+    ensures { Puts out.old at (last_text p) result out.new }
 {
     if !is_open(p) {
         return at;
@@ -110,7 +105,7 @@ pub fn report(
     out: &mut [u8; 16384],
 ) -> usize
     ensures size { result ≤ length out.new }
-    ensures text { Reports (told_by p) verdicts.now held.now bytes.now out.old result out.new }
+    ensures text { Reports p verdicts.now held.now bytes.now out.old result out.new }
 {
     let a = put_line(out, 0, b"messages ", p.messages as usize, &[]);
     let b = put_line(out, a, b"accepted ", verdicts[0] as usize, &[]);

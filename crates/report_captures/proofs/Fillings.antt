@@ -4,7 +4,8 @@ use Rattle.options.specs.KindClaims.{AllBytes}
 use Rattle.options.specs.Captures.{begun, fed, report, report_so_far}
 use Rattle.theorems.proofs.CodesPresent.{all_take}
 use Rattle.captures_theorems.proofs.Reports.{all_append}
-use Rattle.captures.specs.Standing.{Progress, Stands, Feeds, none_read}
+use Rattle.captures.specs.declared.Progress.{Progress}
+use Rattle.captures.specs.Standing.{Stands, Feeds, none_read}
 use Rattle.captures.proofs.Beginning.{begun_empty}
 use Rattle.captures.proofs.States.{standing_is_tidy, fed_more}
 use Rattle.report.specs.Printed.{Reports}

@@ -3,7 +3,8 @@
 use Rattle.std.specs.Prelude.{◌≡◌, ℕ, ◌%◌, ◌^◌, ◌≤◌, List, ◌++◌, length, drop, replicate}
 use Rattle.options.specs.KindClaims.{AllBytes}
 use Rattle.options.specs.Captures.{begun, fed, report}
-use Rattle.captures.specs.Standing.{Progress, Stands}
+use Rattle.captures.specs.declared.Progress.{Progress}
+use Rattle.captures.specs.Standing.{Stands}
 
 -- [H5] begun with zeros, and a buffer of 1,472 bytes or more: the numbers stand for the running tally of a file of as many bytes as were read, so none of them was left out or taken twice
 abbrev pub Filled : List ℕ → List ℕ → List ℕ → List ℕ → ℕ → Progress → List ℕ → List ℕ → List ℕ → List ℕ → Type 0

@@ -3,7 +3,7 @@
 
 ghost use Rattle.std.specs.Prelude.{◌≡◌, ◌+◌, ◌%◌, ◌^◌, ◌≤◌, length, take, IfOk, OnErr};
 ghost use Rattle.tally.specs.Noted.{StaysLent};
-ghost use Rattle.captures.specs.Standing.{told_by, Feeds};
+ghost use Rattle.captures.specs.Standing.{Feeds};
 ghost use Rattle.report_captures.specs.Filled.{Filled, Stopped, Printed};
 
 use captures::Progress;
@@ -57,7 +57,7 @@ fn take_filling(
     tally: &mut Tally,
 ) -> Progress
     ensures same { StaysLent tally.old tally.new }
-    ensures feeds { Feeds (take size part.now) (told_by p) kept.old tally.old.verdicts.now tally.old.held.now tally.old.bytes.now (told_by result) kept.new tally.new.verdicts.now tally.new.held.now tally.new.bytes.now }
+    ensures feeds { Feeds (take size part.now) p kept.old tally.old.verdicts.now tally.old.held.now tally.old.bytes.now result kept.new tally.new.verdicts.now tally.new.held.now tally.new.bytes.now }
 {
     captures::feed(message::part(part, 0, size), p, kept, tally)
 }
@@ -71,7 +71,7 @@ fn fill_all(
 ) -> io::Result<Progress>
     requires { input.old.total ≡ 0 }
     ensures same { StaysLent tally.old tally.new }
-    ensures ok { IfOk result (λ p. Filled kept.old tally.old.verdicts.now tally.old.held.now tally.old.bytes.now input.new.total (told_by p) kept.new tally.new.verdicts.now tally.new.held.now tally.new.bytes.now) }
+    ensures ok { IfOk result (λ p. Filled kept.old tally.old.verdicts.now tally.old.held.now tally.old.bytes.now input.new.total p kept.new tally.new.verdicts.now tally.new.held.now tally.new.bytes.now) }
     ensures err { OnErr result (Stopped kept.old tally.old.verdicts.now tally.old.held.now tally.old.bytes.now kept.new tally.new.verdicts.now tally.new.held.now tally.new.bytes.now) }
 {
     let mut p = captures::begin();

@@ -1,7 +1,6 @@
 -- `report_captures::fill_all` meets its contract. Assumes nothing.
 use Rattle.std.proofs.Common.{rules, refl, ◌∙◌}
 use Rattle.message.proofs.Callers.{all_bytes}
-use Rattle.captures.specs.Standing.{told_by}
 use Rattle.report_captures.specs.Filled.{Stopped}
 use Rattle.report_captures.proofs.Fillings.{filled_first, filled_more}
 use Rattle.report_captures.proofs.fill_all.Goals as goal
@@ -11,7 +10,7 @@ loop-init c = (record { verdicts_same = refl; held_same = refl; bytes_same = ref
 
 pub returns-in_err-size-clause-err : goal.returns-in_err-size-clause-err
 returns-in_err-size-clause-err c =
-    let s : Stopped c.args.kept.now c.args.tally.now.verdicts.now c.args.tally.now.held.now c.args.tally.now.bytes.now c.loop.kept c.loop.tally.verdicts.now c.loop.tally.held.now c.loop.tally.bytes.now = (c.loop.input.total, told_by c.loop.p, c.loop.invariant.1) in
+    let s : Stopped c.args.kept.now c.args.tally.now.verdicts.now c.args.tally.now.held.now c.args.tally.now.bytes.now c.loop.kept c.loop.tally.verdicts.now c.loop.tally.held.now c.loop.tally.bytes.now = (c.loop.input.total, c.loop.p, c.loop.invariant.1) in
     search (rules, s)
 
 pub loop-preserved : goal.loop-preserved

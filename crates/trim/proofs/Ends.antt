@@ -19,15 +19,8 @@ use Rattle.theorems.proofs.Fields.{nothing_after_end}
 use Rattle.theorems.proofs.Reading.{refused_by_the_table}
 use Rattle.message.specs.Walking.{unfit_of}
 use Rattle.message.proofs.Readings.{fit_length, read_fit, read_unfit}
-use Rattle.refusal.specs.declared.Refusal.{Refusal}
-use Rattle.refusal.specs.Refused.{number_of}
-use Rattle.std.specs.Prelude.{Ok, Err}
-use Rattle.trim.specs.Plain.{ended_by, plain_end, EndGivenByCase, EndByCase, end_from, EndKept}
+use Rattle.trim.specs.Plain.{plain_end, EndGivenByCase, EndByCase, end_from, EndKept}
 use Rattle.index.proofs.Steps.{refused_stays}
-use Rattle.options.specs.KindClaims.{AllBytes}
-use Rattle.message.specs.Scan.{Scan, scan_of, refused_at}
-use Rattle.message.proofs.Callers.{scan_refused, scan_accepted}
-use Rattle.index.proofs.Built.{rule_not}
 use Rattle.trim.proofs.Steps.{head_end, head_pad, head_option}
 
 -- ---- a field that is accepted has its END
@@ -62,14 +55,14 @@ judge_closes fd met (found i x p) os e = go (wrong52 fd x) (second52 met x) (λ 
 
 -- options, as the first field that is read
 module _ (m : List ℕ) where
-  abbrev first_read : Reading
+  abbrev pub first_read : Reading
   first_read = judge options false (parse 0 0 (bytes options m))
 
-  all_is : (w : Reading) → first_read ≡ w → all_fields m ≡ further m (and_then [] w)
+  pub all_is : (w : Reading) → first_read ≡ w → all_fields m ≡ further m (and_then [] w)
   unfolding all_fields
   all_is w e = ap (λ (x : Reading). further m (and_then [] x)) e
 
-  all_refused : (n p : ℕ) → first_read ≡ refused n p → all_fields m ≡ refused n p
+  pub all_refused : (n p : ℕ) → first_read ≡ refused n p → all_fields m ≡ refused n p
   all_refused n p e =
       all_is (refused n p) e ∙ ap (extend (sname_in 0) sname m) (refused_stays (file_in 0) file m n p) ∙ refused_stays (sname_in 0) sname m n p
 
@@ -135,7 +128,7 @@ one_end_place m p q a b =
     )
 
 module _ (m : List ℕ) where
-  end_is : (w : Reading) → read_message m ≡ w → options_end_value m ≡ end_in m w
+  pub end_is : (w : Reading) → read_message m ≡ w → options_end_value m ≡ end_in m w
   unfolding options_end_value
   end_is w e = ap (end_in m) e
 
@@ -353,18 +346,6 @@ pub cut_reads_the_same : CutReadsTheSame
 cut_reads_the_same m p e = let t = has_end m p e in subst (CutBehindEnd m) t.is_place (cut_behind m t.os t.is)
 
 -- ---- as the code gives it, and for C
-
--- what the walk over the whole message tells
-module _ (m : List ℕ) (s : Scan) (h : s ≡ scan_of 52 m) where
-  pub end_refused : (r : Refusal) → s ≡ refused_at (number_of r.rule) r.place → ended_by (Err r) ≡ options_end_value m
-  end_refused r e =
-      let q : read_message m ≡ refused (number_of r.rule) r.place = rw e at (scan_refused 52 m s h (λ z. rule_not r.rule (sym (ap (λ (x : Scan). x.number) e) ∙ z))) in
-      sym (end_is m (refused (number_of r.rule) r.place) q)
-
-  pub end_found : AllBytes m → s.number ≡ 0 → ended_by (Ok (240 + before_end 0 (bytes options m))) ≡ options_end_value m
-  end_found b z =
-      let t = scan_accepted 52 m s b h z in
-      sym (end_is m (accepted t.0) t.1.reads)
 
 pub end_given_by_case : EndGivenByCase
 end_given_by_case e = ((λ p. (sym, sym)), (λ r. (sym, sym)))

@@ -1,19 +1,28 @@
--- The bytes before END, from each offset on. Assumes nothing.
+-- The walk of a field to its END: one law for each way through it. Assumes nothing.
 use mathlib.Core.Path.{◌≡◌, refl, sym, ap, ◌∙◌}
-use mathlib.Core.Bool.{Bool, true, false, cond}
+use mathlib.Core.Bool.{Bool, true, false, cond, not}
 use mathlib.Core.List.{List, [], ◌∷◌}
-use lib.Dec.{eqb}
-use Rattle.options.specs.Reading.{span}
 use Prim.Native.Nat.{ℕ, zero, suc, ◌+◌, ◌≤◌, ◌<◌}
-use Rattle.std.specs.Prelude.{min}
 use native.Mathlib.Nat.{le_of_suc-le-suc, not-suc-le-zero}
 use native.Mathlib.Omega.{arith}
-use native.Mathlib.Decide.{dec_lt}
-use lib.ListN.{length, get_or, drop, length-drop, drop_of_length-le}
-use lib.Seq.{drop-cons, drop-drop, get_or-drop}
+use lib.Dec.{eqb}
+use lib.ListN.{length, get_or, take, drop, length-drop}
+use lib.Seq.{drop-cons, drop-drop}
 use borrow.Author.Tests.{eq-eqb, ne_eqb}
+use Rattle.std.specs.Prelude.{Result, Ok, Err}
+use Rattle.options.specs.Message.{Field, start, Rec, Opt}
+use Rattle.options.specs.Reading.{Parse, found, span, Reading, accepted, refused, more, is_options_value, judge}
 use Rattle.options.specs.Trim.{before_end}
-use Rattle.wire.proofs.Laws.{two}
+use Rattle.wire.specs.Walk.{item_at}
+use Rattle.wire.proofs.Laws.{rest, rest_pad, rest_end, rest_found, two}
+use Rattle.message.specs.Walk.{over_stop_value, over_after_value}
+use Rattle.message.specs.Judging.{stop_number}
+use Rattle.refusal.specs.declared.Refusal.{Refusal}
+use Rattle.refusal.specs.Refused.{number_of}
+use Rattle.index.specs.Filling.{over_from, reading}
+use Rattle.index.proofs.Steps.{over_none, here, judge_passes, at_last, at_long, at_stop, at_none}
+use Rattle.trim.specs.declared.Next.{Next}
+use Rattle.trim.specs.Ending.{Gives, Walks, GoesOn}
 
 -- ---- the bytes before END
 
@@ -53,18 +62,6 @@ module _ (f : List ℕ) (i : ℕ) (h : i < length f) where
       ap (before_end 0) (two f i h z e g) ∙ head_option (get_or f i 0) n (drop (i + 2) f) z e u
       ∙ ap (λ (l : List ℕ). 2 + n + before_end 0 l) (drop-drop n (i + 2) f)
 
--- an option that runs past the bytes takes all of them
-skip_all : (n : ℕ) (ys : List ℕ) → length ys ≤ n → before_end n ys ≡ length ys
-unfolding before_end
-skip_all zero [] h = refl
-skip_all zero (y ∷ ys) h = absurd (omega arith)
-skip_all (suc n) [] h = refl
-skip_all (suc n) (y ∷ ys) h = ap suc (skip_all n ys (omega arith))
-
-cut_head : (x : ℕ) (xs : List ℕ) → (x ≡ 0 → ⊥) → (x ≡ 255 → ⊥) → length xs ≤ suc (get_or xs 0 0) → before_end 0 (x ∷ xs) ≡ suc (length xs)
-unfolding before_end
-cut_head x xs z e h = rw (ne_eqb x 255 e, ne_eqb x 0 z) (ap suc (skip_all (suc (get_or xs 0 0)) xs h))
-
 -- END stands within the field, or there is none
 pub before_short : (k : ℕ) (xs : List ℕ) → before_end k xs ≤ length xs
 unfolding before_end
@@ -77,50 +74,100 @@ before_short zero (b ∷ bs) = go (eqb b 255) (before_short (span b bs) bs)
 before_short (suc k) [] = omega arith
 before_short (suc k) (b ∷ bs) = omega (arith, before_short k bs)
 
--- ---- the loop
+-- ---- what is left of a field
 
--- what is left from the offset i on adds to it what the whole has
-pub record Comes (f : List ℕ) (i : ℕ) : Type 0 where
-  pub at_in : i ≤ length f
-  pub same : i + before_end 0 (drop i f) ≡ before_end 0 f
+more_gives : (o : Opt) (w : Reading) (over over' e : ℕ) → ((os : List Opt) → over_from over' os ≡ over_from over (o ∷ os))
+    → (r : Result Next Refusal) → Gives over' w e r → Gives over (more o w) e r
+more_gives o (accepted os) over over' e h (Ok x) t = (t.0, t.1 ∙ h os)
+more_gives o (accepted os) over over' e h (Err r) t = t
+more_gives o (refused n p) over over' e h (Ok x) t = t
+more_gives o (refused n p) over over' e h (Err r) t = t
 
-pub comes_first : (f : List ℕ) → Comes f 0
-comes_first f = record { at_in = omega arith; same = omega arith }
+as_read : {v w : Reading} {d e : ℕ} (over : ℕ) (r : Result Next Refusal) → w ≡ v → e ≡ d → Gives over v d r → Gives over w e r
+as_read over r a b t = rw (a, b) t
 
-module _ {f : List ℕ} {i : ℕ} (y : Comes f i) where
-  pub comes_out : length f ≤ i → i ≡ before_end 0 f
-  unfolding before_end
-  comes_out h =
-      let b : before_end 0 (drop i f) ≡ 0 = ap (before_end 0) (drop_of_length-le f h) in
-      omega (arith, y.same, b)
+module _ (fd : Field) (f : List ℕ) (i over : ℕ) where
+  refused_here : (n : ℕ) → reading fd f over i ≡ refused n (start fd + i) → (r : Refusal) → number_of r.rule ≡ n → r.place ≡ start fd + i → Walks fd f over i (Err r)
+  refused_here n e r a b = as_read over (Err r) e refl (a, b)
+
+  -- no byte is left
+  pub walk_none : length f ≡ i → (r : Refusal) → number_of r.rule ≡ 5 → r.place ≡ start fd + i → Walks fd f over i (Err r)
+  walk_none l = refused_here 5 (at_none fd f i over l)
 
   module _ (h : i < length f) where
-    pub comes_end : get_or f i 0 ≡ 255 → i ≡ before_end 0 f
-    comes_end e = omega (arith, y.same, end_before f i h e)
+    pub look_pad : get_or f i 0 ≡ 0 → GoesOn fd f i over (i + 1) over
+    look_pad z =
+        let q : i + before_end 0 (drop i f) ≡ i + 1 + before_end 0 (drop (i + 1) f) = omega (arith, pad_before f i h z) in
+        record { onward = omega arith; within = omega arith; leads = λ r. as_read over r (ap (judge fd (not (eqb over 0))) (rest_pad f i h z)) q }
 
-    pub comes_pad : get_or f i 0 ≡ 0 → Comes f (i + 1)
-    comes_pad e = record { at_in = omega arith; same = omega (arith, y.same, pad_before f i h e) }
+    pub look_end : get_or f i 0 ≡ 255 → Walks fd f over i (Ok (record { at = i; over = over }))
+    unfolding judge
+    look_end e =
+        let q : i ≡ i + before_end 0 (drop i f) = omega (arith, end_before f i h e) in
+        as_read over (Ok (record { at = i; over = over })) (ap (judge fd (not (eqb over 0))) (rest_end f i h e)) refl (q, over_none over)
 
     module _ (z : get_or f i 0 ≡ 0 → ⊥) (e : get_or f i 0 ≡ 255 → ⊥) where
-      cut_before : length f < i + 2 + get_or f (i + 1) 0 → before_end 0 (drop i f) + i ≡ length f
-      cut_before l =
-          let q : suc i ≡ i + 1 = omega arith in
-          let n : get_or (drop (suc i) f) 0 0 ≡ get_or f (i + 1) 0 = get_or-drop (suc i) f 0 0 ∙ ap (λ (k : ℕ). get_or f k 0) (let w : suc i + 0 ≡ i + 1 = omega arith in w) in
-          let k : length (drop (suc i) f) ≤ suc (get_or (drop (suc i) f) 0 0) = omega (arith, length-drop (suc i) f, n) in
-          let b : before_end 0 (drop i f) ≡ suc (length (drop (suc i) f)) = ap (before_end 0) (drop-cons f i 0 h) ∙ cut_head (get_or f i 0) (drop (suc i) f) z e k in
-          omega (arith, b, length-drop (suc i) f)
+      pub look_last : length f < i + 2 → (r : Refusal) → number_of r.rule ≡ 4 → r.place ≡ start fd + i → Walks fd f over i (Err r)
+      look_last l = refused_here 4 (at_last fd f i over [] h z e (omega arith))
 
-      pub comes_option : (j : ℕ) → j ≡ min (length f) (i + 2 + get_or f (i + 1) 0) → (i < j) × Comes f j
-      unfolding before_end
-      comes_option j q = go (dec_lt (length f) (i + 2 + get_or f (i + 1) 0))
-        where
-          go : Dec (length f < i + 2 + get_or f (i + 1) 0) → (i < j) × Comes f j
-          go (yes l) =
-              let w : j ≡ length f = omega (arith, q, l) in
-              let b : before_end 0 (drop j f) ≡ 0 = ap (before_end 0) (drop_of_length-le f (omega (arith, w))) in
-              (omega (arith, w), record { at_in = omega (arith, w); same = omega (arith, y.same, cut_before l, w, b) })
-          go (no l) =
-              let w : j ≡ i + 2 + get_or f (i + 1) 0 = omega (arith, q, l) in
-              let b : before_end 0 (drop i f) ≡ 2 + get_or f (i + 1) 0 + before_end 0 (drop j f) =
-              option_before f i h z e (omega (arith, l)) (omega (arith, l)) ∙ ap (λ (k : ℕ). 2 + get_or f (i + 1) 0 + before_end 0 (drop k f)) (sym w) in
-              (omega (arith, w), record { at_in = omega (arith, w, l); same = omega (arith, y.same, b, w) })
+      module _ (g : i + 2 ≤ length f) (n : ℕ) (q : n ≡ get_or f (i + 1) 0) where
+        l_of : i + 1 < length f
+        l_of = omega arith
+
+        pub look_long : length f < i + 2 + n → (r : Refusal) → number_of r.rule ≡ 4 → r.place ≡ start fd + i → Walks fd f over i (Err r)
+        look_long l = refused_here 4 (at_long fd f i over [] h z e l_of (omega (arith, q)))
+
+        abbrev body : List ℕ
+        body = take n (drop (i + 2) f)
+
+        body_is : body ≡ take (get_or f (i + 1) 0) (drop (i + 2) f)
+        body_is = ap (λ (x : ℕ). take x (drop (i + 2) f)) q
+
+        module _ (l : i + 2 + n ≤ length f) where
+          fits : i + 2 + get_or f (i + 1) 0 ≤ length f
+          fits = omega (arith, q)
+
+          abbrev item : Rec
+          item = item_at (get_or f i 0) (get_or f (i + 1) 0) f i
+
+          abbrev onward : Parse
+          onward = rest f (i + 2 + get_or f (i + 1) 0)
+
+          found_is : reading fd f over i ≡ judge fd (not (eqb over 0)) (found i item onward)
+          found_is = ap (judge fd (not (eqb over 0))) (rest_found f i h z e l_of fits)
+
+          pub look_stop : (s : ℕ) → s ≡ stop_number (over_stop_value (is_options_value fd) over (get_or f i 0) body) → (s ≡ 0 → ⊥)
+              → (r : Refusal) → number_of r.rule ≡ s → r.place ≡ start fd + i → Walks fd f over i (Err r)
+          look_stop s w d =
+              refused_here s
+              (at_stop fd f i over [] h z e l_of fits s (w ∙ ap (λ (b : List ℕ). stop_number (over_stop_value (is_options_value fd) over (get_or f i 0) b)) body_is) d)
+
+          pub look_option : over_stop_value (is_options_value fd) over (get_or f i 0) body ≡ 0 → GoesOn fd f i over (i + 2 + n) (over_after_value over (get_or f i 0) body)
+          look_option w =
+              let y : over_stop_value (is_options_value fd) over (get_or f i 0) item.body ≡ 0 = ap (over_stop_value (is_options_value fd) over (get_or f i 0)) (sym body_is) ∙ w in
+              let p = judge_passes fd over i item onward y in
+              let v : ℕ = over_after_value over (get_or f i 0) item.body in
+              let b : i + before_end 0 (drop i f) ≡ i + 2 + get_or f (i + 1) 0 + before_end 0 (drop (i + 2 + get_or f (i + 1) 0) f) = omega (arith, option_before f i h z e l_of fits) in
+              record {
+                onward = omega arith;
+                within = l;
+                leads = λ r t.
+                    as_read over r (found_is ∙ p.more_is) b
+                    (more_gives (here fd over i item onward) (judge fd (not (eqb v 0)) onward) over v (i + 2 + get_or f (i + 1) 0 + before_end 0 (drop (i + 2 + get_or f (i + 1) 0) f)) p.over_is r (rw (← q) t));
+              }
+
+-- ---- the loop
+
+-- where the walk has come from the first byte on: what is left gives what the whole gives
+pub record Walking (fd : Field) (f : List ℕ) (over i : ℕ) : Type 0 where
+  pub at_in : i ≤ length f
+  pub leads : (r : Result Next Refusal) → Walks fd f over i r → Walks fd f 0 0 r
+
+module _ {fd : Field} {f : List ℕ} {over i : ℕ} (y : Walking fd f over i) where
+  pub walking_on : (j over' : ℕ) → GoesOn fd f i over j over' → Walking fd f over' j
+  walking_on j over' x = record { at_in = x.within; leads = λ r t. y.leads r (x.leads r t) }
+
+  pub walking_none : length f ≤ i → (r : Refusal) → number_of r.rule ≡ 5 → r.place ≡ start fd + length f → Walks fd f 0 0 (Err r)
+  walking_none l r a b =
+      let e : length f ≡ i = omega (arith, y.at_in) in
+      y.leads (Err r) (walk_none fd f i over e r a (b ∙ ap (λ (k : ℕ). start fd + k) e))

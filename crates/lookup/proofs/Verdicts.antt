@@ -65,6 +65,16 @@ two_rules : (long : Bool) (f : ℕ) (v : Value) → cond long (unless f v) (brok
 two_rules true f v = refl
 two_rules false f v = refl
 
+-- a verdict by the rule of length first: where it is broken no data count
+module _ (row n : ℕ) (f : ℕ) (d : List ℕ) where
+  pub length_broken : length_fits_value (row_at row) n ≡ false → broken 8 ≡ judged_of row n f d
+  unfolding judged_of
+  length_broken e = rw e refl
+
+  pub length_kept : length_fits_value (row_at row) n ≡ true → unless f (meaning_of (kind_at (kind_numbered row)) n d) ≡ judged_of row n f d
+  unfolding judged_of
+  length_kept e = rw e refl
+
 module _ (d h : List ℕ) (head_byte : (i : ℕ) → i < 4 → get_or h i 0 ≡ get_or d i 0) where
   head16 : first16 h ≡ first16 d
   head16 = rw (head_byte 0 (omega arith), head_byte 1 (omega arith))

@@ -144,14 +144,22 @@ fn judge(row: Option<u8>, d: &[u8]) -> Content
     }
 }
 
-// What is answered of n bytes by a row, where d has those that are looked at, which a fault may break.
+// The same of data in several pieces of which all are looked at. Not compiled into its caller, whose loops over all bytes would lose registers to it.
+#[inline(never)]
 fn judge_joined(row: u8, n: usize, fault: Option<Fault>, d: &[u8]) -> Content
-    ensures { content_of result ≡ asked.known (judged_of row n (fault_or_none fault) d.now) }
+    ensures { content_of result ≡ asked.known (unless (fault_or_none fault) (meaning_of (kind_at (kind_numbered row)) n d.now)) }
+{
+    judged(row, n, fault, d)
+}
+
+// What is answered of n bytes by a row that looks at few, where d has those. The length comes first: data of a wrong length are not judged.
+fn judge_head(row: u8, n: usize, d: &[u8]) -> Content
+    ensures { content_of result ≡ asked.known (judged_of row n (number_fault_value (row_at row) d.now) d.now) }
 {
     if !kinds::length_fits(row, n) {
         return Content::Broken(Fault::Length);
     }
-    judged(row, n, fault, d)
+    judged(row, n, kinds::number_fault(row, d), d)
 }
 
 // The field that a place of the message is in. The fields lie apart, so the place tells the field.
@@ -211,12 +219,7 @@ fn judge_both(row: u8, a: &[u8], b: &[u8]) -> Content
         byte_of_both(a, b, 2),
         byte_of_both(a, b, 3),
     ];
-    judge_joined(
-        row,
-        a.len() + b.len(),
-        kinds::number_fault(row, &head),
-        &head,
-    )
+    judge_head(row, a.len() + b.len(), &head)
 }
 
 // Puts two parts end to end at the front of a buffer, and gives the index after them.
@@ -247,11 +250,14 @@ fn put_pieces(m: &[u8], code: u8, w: Scanned, out: &mut [u8]) -> usize
     gather::gather(m, w.over, cursor::first(), code, out, 0)
 }
 
-// What is answered where the row looks at all bytes: they are put into a buffer of the function's own.
+// What is answered where the row looks at all bytes: they are put into a buffer of the function's own, once their length, which the walk told, is right.
 fn by_list(m: &[u8], row: u8, code: u8, w: Scanned) -> Content
     requires { (is_list_value (row_at row) ≡ true) × InPieces m.now code (told_of w) }
     ensures { content_of result ≡ asked.known (judged_by (row_at row) (joined_from w.over m.now first_position code)) }
 {
+    if !kinds::length_fits(row, w.whole) {
+        return Content::Broken(Fault::Length);
+    }
     let mut joined = [0u8; 1472];
     let n = put_pieces(m, code, w, &mut joined);
     let d = &joined[..n];
@@ -265,8 +271,7 @@ fn by_first_four(m: &[u8], row: u8, code: u8, w: Scanned) -> Content
 {
     let mut head = [0u8; 4];
     let h = gather::gather(m, w.over, cursor::first(), code, &mut head, 0);
-    let d = &head[..h];
-    judge_joined(row, w.whole, kinds::number_fault(row, d), d)
+    judge_head(row, w.whole, &head[..h])
 }
 
 fn by_head(m: &[u8], row: u8, code: u8, w: Scanned) -> Content

@@ -14,11 +14,11 @@ use Rattle.lookup.proofs.by_first_four.Goals as goal
 pub slice_bounds-head-end : goal.slice_bounds-head-end
 slice_bounds-head-end c = (gathered 4 (rw c.first.ensures at c.gather-h.ensures)).room
 
-pub slice_bounds-d-end : goal.slice_bounds-d-end
-slice_bounds-d-end c = sym (length-take-le _ _ (gathered 4 (rw c.first.ensures at c.gather-h.ensures)).room)
+pub slice_bounds-judge_head-end : goal.slice_bounds-judge_head-end
+slice_bounds-judge_head-end c = sym (length-take-le _ _ (gathered 4 (rw c.first.ensures at c.gather-h.ensures)).room)
 
 pub returns : goal.returns
 returns c = let d : List ℕ = joined_from c.args.w.over c.args.m.now first_position c.args.code in
     let f : Front (take 4 d) c.gather-h.new.out c.gather-h.result = gathered 4 (rw c.first.ensures at c.gather-h.ensures) in
-    rw (c.number_fault.ensures, f.front, c.requires.1.whole) at c.judge_joined.ensures
+    rw (f.front, c.requires.1.whole) at c.judge_head.ensures
     ∙ ap asked.known (by_first_four_lem d (take 4 d) (λ i h. get_or-take 4 d i 0 h) c.args.row c.requires.0)

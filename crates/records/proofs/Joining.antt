@@ -130,6 +130,9 @@ pub record Gathering (v : ℕ) (m old : List ℕ) (at : ℕ) (all now : List ℕ
   pub stands : Stands v m i
   pub still : Still old at all now o (joined_at v m i c)
 
+pub gathering_goes : {v : ℕ} {m old : List ℕ} {at : ℕ} {all now : List ℕ} {o i c j : ℕ} → Gathering v m old at all now o i c → Goes v m i j → Gathering v m old at all now o j c
+gathering_goes y g = record { stands = g.stands; still = rw g.same at y.still }
+
 -- ---- the records
 
 -- the first option's record, where it has one, and the others

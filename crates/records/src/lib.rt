@@ -160,20 +160,32 @@ fn put_piece(piece: bool, body: &[u8], out: &mut [u8], at: usize) -> usize
     e
 }
 
-// Lays the data of a code's pieces from a place on, end to end.
+// Lays the data of a code's pieces from a place on, end to end. By `option_from`, `over` is tested again at each option, and the whole takes more
+// instructions than plain C: so this walk is written out.
 fn join(m: &[u8], over: u32, from: usize, code: u8, out: &mut [u8], at: usize) -> usize
     requires { ActiveEnds over m.now × Stands over m.now from × (at + length (joined_at over m.now from code) ≤ length out.old) }
     ensures { Written out.old at (joined_at over m.now from code) result out.new }
 {
     let mut o = at;
-    let mut next = from;
-    while let Some(i) = option_from(m, over, next) {
-        let j = i + 2;
-        let e = j + num::wide(m[i + 1]);
-        o = put_piece(code == m[i], &m[j..e], out, o);
-        next = e;
+    let mut i = from;
+    loop {
+        let c = m[i];
+        if c == 255 {
+            let Some(next) = next_place(over, i) else {
+                return o;
+            };
+            i = next;
+        } else {
+            if c == 0 {
+                i = i + 1;
+            } else {
+                let j = i + 2;
+                let e = j + num::wide(m[i + 1]);
+                o = put_piece(code == c, &m[j..e], out, o);
+                i = e;
+            }
+        }
     }
-    o
 }
 
 // Lays the record of a code whose first piece stands at a place: the data of all its pieces.

@@ -4,7 +4,7 @@ use Rattle.records.proofs.Joining.{Gathering}
 use Rattle.records.proofs.join.Given as goal
 
 abbrev pub invariant-loop-i : goal.invariant-loop-i
-invariant-loop-i l = Gathering l.over l.m l.initial.out l.at (joined_at l.over l.m l.from l.code) l.out l.o l.next l.code
+invariant-loop-i l = Gathering l.over l.m l.initial.out l.at (joined_at l.over l.m l.from l.code) l.out l.o l.i l.code
 
 abbrev pub decreases-loop-i : goal.decreases-loop-i
-decreases-loop-i l = bytes_left l.m l.next
+decreases-loop-i l = bytes_left l.m l.i

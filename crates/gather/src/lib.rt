@@ -7,7 +7,9 @@ ghost use Rattle.gather.specs.Joined.{joined_from};
 use cursor::{Options, Position};
 
 // Puts the data of the options with a code into the buffer, as much as there is room for, from `at` on, and gives the index after it: those from a position on,
-// in a message whose option 52 has the value `over` (0: it has none).
+// in a message whose option 52 has the value `over` (0: it has none). Never put into a caller: with a buffer of the caller's own the compiler would copy by memcpy,
+// which the archive of captures does without.
+#[inline(never)]
 pub fn gather(m: &[u8], over: u32, begin: Position, code: u8, out: &mut [u8], at: usize) -> usize
     ensures { Puts out.old at (joined_from over m.now begin code) result out.new }
 {

@@ -1,9 +1,11 @@
 #!/usr/bin/env python3
 """What must be believed: the files with the definitions that public contracts rest on, against the table of docs/ARCHITECTURE.md.
 
-A public contract is the `ensures` of a `pub fn` of a library. It rests on each definition that it names, and on each that those name, through all
-files `specs/*.antt` of the crates. A file with one of them must be listed under "To check the result against the rules, read these", and one
-without any must not be; crate options is listed whole. With the word `why` it says for each file which definitions, and first by which function.
+A public contract is the `ensures` of a `pub fn` of a library, and what stands with a public type or trait: the ghost members and the `ensures` of the
+methods in its `impl`s of traits (as `from_gives` of a `From`), and the members that its own block has. It rests on each definition that it names, and
+on each that those name, through all files `specs/*.antt` of the crates. A file with one of them must be listed under "To check the result against the
+rules, read these", and one without any must not be; crate options is listed whole. With the word `why` it says for each file which definitions, and
+first by which function or member.
 The last line is 'N files, M missing, K needless'.
 """
 import re
@@ -79,27 +81,46 @@ def resolve(words, names, modules, local):
                 yield names[module][:2], names[module][2]
 
 
+def closing(text, at):
+    """The place behind the brace that closes the one that stands before `at`."""
+    depth = 1
+    while depth:
+        depth += {"{": 1, "}": -1}.get(text[at], 0)
+        at += 1
+    return at
+
+
+def ensured(text, at):
+    """The words of the ensures of the function whose name ends at `at`."""
+    words = []
+    while True:
+        start = re.compile(r"\bensures(?: \w+)? \{|\{\n|\{\}|;\n").search(text, at)
+        if not start or not start.group().startswith("ensures"):
+            return words
+        at = closing(text, start.end())
+        words += re.findall(WORD, text[start.end():at - 1])
+
+
+def blocks_of(text):
+    """Each public type and trait, and each impl of a trait for one, with the text between its braces. A type from another file is public."""
+    for found in re.finditer(r"^(?:impl\b[^{]*? for (?:&(?:'\w+ )?(?:mut )?)?|pub (?:struct|enum|trait) )(\w+)[^{;]*\{", text, flags=re.M):
+        if not re.search(rf"^\s*(?:struct|enum|type|trait) {found[1]}\b", text, flags=re.M):
+            yield found[1], text[found.end():closing(text, found.end()) - 1]
+
+
 def contracts(text):
-    """Each public function with the words of its ensures."""
+    """Each public promise, by its function or by type and member, with its words."""
     text = re.sub(r"//.*", "", text)
-    for found in re.finditer(r"\bpub (?:extern \"C\" )?fn (\w+)", text):
-        at, words = found.end(), []
-        while True:
-            start = re.compile(r"\bensures(?: \w+)? \{|\{\n|\{\}").search(text, at)
-            if not start or not start.group().startswith("ensures"):
-                break
-            at = begin = start.end()
-            depth = 1
-            while depth:
-                depth += {"{": 1, "}": -1}.get(text[at], 0)
-                at += 1
-            words += re.findall(WORD, text[begin:at - 1])
-        if words:
-            yield found[1], words
+    promises = [(found[1], ensured(text, found.end())) for found in re.finditer(r"\bpub (?:extern \"C\" )?fn (\w+)", text)]
+    for name, body in blocks_of(text):
+        for found in re.finditer(r"\bghost (\w+)(?: =|:) \{", body):
+            promises.append((f"{name}::{found[1]}", re.findall(WORD, body[found.end():closing(body, found.end()) - 1])))
+        promises += [(f"{name}::{found[1]}", ensured(body, found.end())) for found in re.finditer(r"\bfn (\w+)", body)]
+    return [(by, words) for by, words in promises if words]
 
 
 def needed(specs):
-    """(crate, file) -> {definition: the first public function that rests on it}."""
+    """(crate, file) -> {definition: the first public function or member that rests on it}."""
     known = {place: (*definitions(text), *uses(text)) for place, text in specs.items()}
     reached = {}
     for path in sorted((ROOT / "crates").glob("*/src/lib.rt")):

@@ -3,7 +3,7 @@
 
 ghost use Rattle.std.specs.Prelude.{◌<◌};
 
-use console::{one, word};
+use console::{Run, one, word};
 use dhcpopt_captures::PlainProgress;
 use message::part;
 use std::io;
@@ -120,19 +120,34 @@ fn begun() -> Taken {
     }
 }
 
+// The steps, one after another, on the file that is taken.
+#[derive(Drop)]
+struct Cases {
+    to: Stdout,
+    taken: Taken,
+}
+
+impl Run for Cases {
+    fn run(&mut self, call: u8, _name: &[u8], given: &[u8], rising: &mut [u8]) -> io::Result<()> {
+        self.taken.take(self.to, call, given, rising)
+    }
+}
+
 // At most 5,000 steps are read.
 fn main(rt: HostRuntime) -> io::Result<()> {
     let mut name = [0u8; 1];
     let mut given = [0u8; 65536];
     let mut rising = [0u8; 65536];
-    let mut taken = begun();
-    let to = rt.stdout();
+    let mut cases = Cases {
+        to: rt.stdout(),
+        taken: begun(),
+    };
     console::each(
         rt.stdin(),
         5000,
         &mut name,
         &mut given,
         &mut rising,
-        |call, _name, given, rising| taken.take(to, call, given, rising),
+        &mut cases,
     )
 }

@@ -163,22 +163,27 @@ pub fn next(
     body(from, Head::from(head), name, given, out)
 }
 
-// Runs the cases one after another, at most so many: each with its call, its name, what is handed over and what is lent. The three buffers are the program's.
-pub fn each<F: FnMut(u8, &[u8], &[u8], &mut [u8]) -> io::Result<()>>(
+// What a program does with a case: with its call, its name, what is handed over and what is lent.
+pub trait Run {
+    fn run(&mut self, call: u8, name: &[u8], given: &[u8], out: &mut [u8]) -> io::Result<()>;
+}
+
+// Runs the cases one after another, at most so many. The three buffers are the program's, and each keeps its length; what stands in them then is what the last case left.
+pub fn each<R: Run>(
     from: Stdin,
     most: usize,
     name: &mut [u8],
     given: &mut [u8],
     out: &mut [u8],
-    mut run: F,
+    cases: &mut R,
 ) -> io::Result<()>
-    requires { F.IsAlwaysCallable run }
+    ensures { (length name.new ≡ length name.old) × (length given.new ≡ length given.old) × (length out.new ≡ length out.old) }
 {
     for _ in 0..most {
         let Some(c) = next(from, name, given, out)? else {
             break;
         };
-        run(
+        cases.run(
             c.call,
             &name[..c.letters],
             &given[..c.size],

@@ -1,6 +1,7 @@
 // Reads grouped files and sheets from standard input, makes the call asked for on each, and prints what it gave (tests/grouped/README.md).
 #![tactic(auto)]
 
+use console::Run;
 use filled::PlainFilled;
 use message::part;
 use std::io;
@@ -42,21 +43,30 @@ fn call(to: Stdout, which: u8, f: &[u8], class: &[u8], out: &mut [u8]) -> io::Re
     }
 }
 
+// The lines of each case, the last one too.
+#[derive(Drop)]
+struct Cases {
+    to: Stdout,
+}
+
+impl Run for Cases {
+    fn run(&mut self, which: u8, class: &[u8], file: &[u8], out: &mut [u8]) -> io::Result<()> {
+        call(self.to, which, file, class, out)?;
+        println!(self.to; "-")
+    }
+}
+
 // At most 4,000 cases are read.
 fn main(rt: HostRuntime) -> io::Result<()> {
     let mut class = [0u8; 300];
     let mut file = [0u8; 5000];
     let mut out = [0u8; 5000];
-    let to = rt.stdout();
     console::each(
         rt.stdin(),
         4000,
         &mut class,
         &mut file,
         &mut out,
-        |which, class, file, out| {
-            call(to, which, file, class, out)?;
-            println!(to; "-")
-        },
+        &mut Cases { to: rt.stdout() },
     )
 }

@@ -1,6 +1,7 @@
 // Reads vendor information and relay information, and sheets of their items, from standard input, and prints what the calls that C links give of each (tests/items/README.md).
 #![tactic(auto)]
 
+use console::Run;
 use dhcpopt_reader::{PlainId, PlainRelay};
 use filled::PlainFilled;
 use message::part;
@@ -105,21 +106,30 @@ fn case(to: Stdout, call: u8, bytes: &[u8], out: &mut [u8]) -> io::Result<()> {
     }
 }
 
+// The lines of each case, the last one too.
+#[derive(Drop)]
+struct Cases {
+    to: Stdout,
+}
+
+impl Run for Cases {
+    fn run(&mut self, call: u8, _name: &[u8], bytes: &[u8], out: &mut [u8]) -> io::Result<()> {
+        case(self.to, call, bytes, out)?;
+        println!(self.to; "-")
+    }
+}
+
 // At most 2,000 cases are read.
 fn main(rt: HostRuntime) -> io::Result<()> {
     let mut name = [0u8; 1];
     let mut given = [0u8; 5000];
     let mut out = [0u8; 5000];
-    let to = rt.stdout();
     console::each(
         rt.stdin(),
         2000,
         &mut name,
         &mut given,
         &mut out,
-        |call, _name, bytes, out| {
-            case(to, call, bytes, out)?;
-            println!(to; "-")
-        },
+        &mut Cases { to: rt.stdout() },
     )
 }

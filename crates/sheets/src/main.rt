@@ -4,6 +4,7 @@
 mod names;
 mod print;
 
+use console::Run;
 use std::io;
 use std::io::Stdout;
 
@@ -19,18 +20,35 @@ fn one(to: Stdout, sheet: &[u8], buf: &mut [u8], permission: u8) -> io::Result<(
     println!(to; "-")
 }
 
+// A case is a sheet, with the permission in place of a call.
+#[derive(Drop)]
+struct Cases {
+    to: Stdout,
+}
+
+impl Run for Cases {
+    fn run(
+        &mut self,
+        permission: u8,
+        _name: &[u8],
+        sheet: &[u8],
+        buf: &mut [u8],
+    ) -> io::Result<()> {
+        one(self.to, sheet, buf, permission)
+    }
+}
+
 // At most 2,000 cases are read.
 fn main(rt: HostRuntime) -> io::Result<()> {
     let mut name = [0u8; 1];
     let mut sheet = [0u8; 5000];
     let mut buf = [0u8; 1600];
-    let to = rt.stdout();
     console::each(
         rt.stdin(),
         2000,
         &mut name,
         &mut sheet,
         &mut buf,
-        |permission, _name, sheet, buf| one(to, sheet, buf, permission),
+        &mut Cases { to: rt.stdout() },
     )
 }

@@ -6,6 +6,7 @@ mod indexes;
 mod names;
 mod print;
 
+use console::Run;
 use cursor::Options;
 use std::io;
 use std::io::Stdout;
@@ -42,6 +43,18 @@ fn one(to: Stdout, m: &[u8]) -> io::Result<()> {
     println!(to; "-")
 }
 
+// The lines of each message; its call, its name and what is lent are not used.
+#[derive(Drop)]
+struct Cases {
+    to: Stdout,
+}
+
+impl Run for Cases {
+    fn run(&mut self, _call: u8, _name: &[u8], m: &[u8], _out: &mut [u8]) -> io::Result<()> {
+        one(self.to, m)
+    }
+}
+
 // At most 2,000 messages are read.
 fn main(rt: HostRuntime) -> io::Result<()> {
     let mut name = [0u8; 1];
@@ -54,7 +67,7 @@ fn main(rt: HostRuntime) -> io::Result<()> {
         &mut name,
         &mut given,
         &mut out,
-        |_call, _name, m, _out| one(to, m),
+        &mut Cases { to },
     )?;
     extra::lines(to)
 }

@@ -5,7 +5,7 @@ use Rattle.options.specs.Kinds.{addresses_of}
 use Rattle.options.specs.Answers.{AddressStep, next, done, step_in, address_step}
 use Rattle.address.specs.declared.AddressReader.{AddressReader}
 use Rattle.address.specs.declared.Entry.{Entry}
-use Rattle.address.specs.Walk.{step_by, address_in, place_in, moved, Gives, no_more, one_more, ReaderGivesTheAddresses, EntryKeepsTheStep, DoneGivesNothing}
+use Rattle.address.specs.Walk.{step_by, address_in, place_in, moved, Gives, no_more, one_more, ReaderGivesTheAddresses, entry_of, EntryKeepsTheStep, DoneGivesNothing}
 
 abbrev at_step : AddressReader → AddressStep → AddressReader
 at_step r x = record { list = r.list; at = place_in r.at x }
@@ -30,9 +30,16 @@ from r (a ∷ b ∷ c ∷ e ∷ xs) h =
 pub reader_gives_the_addresses : ReaderGivesTheAddresses
 reader_gives_the_addresses r = from r (drop r.at r.list.now) refl
 
+kept : (s : AddressStep) → step_by (entry_of s) ≡ s
+kept (next a k) = refl
+kept done = refl
+
+back : (e : Option Entry) → entry_of (step_by e) ≡ e
+back None = refl
+back (Some x) = refl
+
 pub entry_keeps_the_step : EntryKeepsTheStep
-entry_keeps_the_step (next a k) = refl
-entry_keeps_the_step done = refl
+entry_keeps_the_step = (kept, back)
 
 none : (e : Option Entry) → step_by e ≡ done → e ≡ None
 none None e = refl

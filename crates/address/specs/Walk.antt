@@ -50,9 +50,9 @@ abbrev pub entry_of : AddressStep → Option Entry
 entry_of (next address after) = Some (record { address = address; next = after })
 entry_of done = None
 
--- an entry loses nothing of the step
+-- an entry loses nothing of the step, and the step determines the entry
 abbrev pub EntryKeepsTheStep : Type 0
-EntryKeepsTheStep = (s : AddressStep) → step_by (entry_of s) ≡ s
+EntryKeepsTheStep = ((s : AddressStep) → step_by (entry_of s) ≡ s) × ((e : Option Entry) → entry_of (step_by e) ≡ e)
 
 -- done is no entry: it gives no address and leaves the place as it was
 pub record NothingGiven (at : ℕ) : Type 0 where

@@ -5,3 +5,4 @@ pub mod VendorOutcomes
 pub mod RelayOutcomes
 pub mod Walking
 pub mod Identified
+pub mod Cases

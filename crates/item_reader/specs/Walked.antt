@@ -1,9 +1,10 @@
 -- What the walk over sub-options tells. Assumes nothing.
-use Rattle.std.specs.Prelude.{Bool, true, false, cond, ℕ, length, Option, Some, None, Result, Ok, Err}
+use Rattle.std.specs.Prelude.{◌≡◌, IfErr, Bool, true, false, cond, ℕ, length, Option, Some, None, Result, Ok, Err}
 use Rattle.options.specs.Answers.{record_bytes}
 use Rattle.options.specs.Vendor.{Items, listed, past, item_records}
 use Rattle.options.specs.Relay as asked
 use Rattle.refusal.specs.declared.Refusal.{Refusal}
+use Rattle.refusal.specs.declared.Rule.TheVariants.{BadLength}
 use Rattle.item_reader.specs.declared.Id.{Id}
 use Rattle.item_reader.specs.declared.Read.{Read}
 
@@ -43,3 +44,11 @@ walked_of (listed xs) = walked_with (length (record_bytes (item_records xs))) (a
 abbrev pub walked_by : Result Read Refusal → Walked
 walked_by (Ok r) = walked_with r.size (id_of r.circuit) (id_of r.remote)
 walked_by (Err e) = past_at e.place
+
+-- each case, member by member, and of an id too; of refusals by the rule that sub-options are refused by nothing is lost
+abbrev pub WalkedByCase : Type 0
+WalkedByCase =
+    (id_of None ≡ asked.absent) × ((i : Id) → id_of (Some i) ≡ asked.named i.start i.length)
+    × ((r : Read) → walked_by (Ok r) ≡ record { past = false; place = 0; size = r.size; circuit = id_of r.circuit; remote = id_of r.remote })
+    × ((e : Refusal) → walked_by (Err e) ≡ record { past = true; place = e.place; size = 0; circuit = asked.absent; remote = asked.absent })
+    × ((a b : Result Read Refusal) → IfErr a (λ e. e.rule ≡ BadLength) → IfErr b (λ e. e.rule ≡ BadLength) → walked_by a ≡ walked_by b → a ≡ b)

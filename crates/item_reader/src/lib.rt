@@ -11,14 +11,14 @@ ghost use Rattle.filled.specs.Fill.{Fills};
 ghost use Rattle.item_reader.specs.Laid.{pad_or_end_value, walk_of, item_bytes, NonePast};
 ghost use Rattle.options.specs.Relay as asked;
 ghost use Rattle.refusal.specs.declared.Rule.TheVariants.{BadLength};
-ghost use Rattle.item_reader.specs.Walked.{id_of, first_id, id_after, walked_by, walked_of};
+ghost use Rattle.item_reader.specs.Walked.{id_of, first_id, id_after, walked_by, walked_of, WalkedByCase};
 ghost use Rattle.item_reader.specs.Reads.{ReadAs, IdByCase};
 
 use refusal::{Refusal, Rule};
 
-// The numbers of an id are those of each case.
+// The statements of specs/ hold: the numbers of an id, and of what the walk gives, are those of each case.
 pub fn proved()
-    ensures { IdByCase }
+    ensures { IdByCase × WalkedByCase }
 {}
 
 // Whether a code is a pad or END: so where items are marked by them, as those of vendor information; never among sub-options.

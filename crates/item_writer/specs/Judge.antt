@@ -1,5 +1,5 @@
--- The verdict on a sheet of items or of sub-options, as a number and a place: no public contract rests on this. Assumes nothing.
-use Rattle.std.specs.Prelude.{List, [], ◌∷◌, Bool, true, false, cond, ℕ, ◌≤◌, length, ltb, Result, Ok, Err}
+-- The verdict on a sheet of items or of sub-options, as a number and a place: no public contract but that of `proved` rests on this. Assumes nothing.
+use Rattle.std.specs.Prelude.{◌≡◌, List, [], ◌∷◌, Bool, true, false, cond, ℕ, ◌≤◌, length, ltb, Result, Ok, Err}
 use Rattle.options.specs.Message.{Rec}
 use Rattle.options.specs.Reading.{among}
 use Rattle.options.specs.SheetWalk.{Sheet, sound, faulty}
@@ -42,6 +42,13 @@ judge_of (sound rs) = record { number = 0; place = 0; total = length (option_byt
 abbrev pub judged_by : Result ℕ Refusal → Judged
 judged_by (Ok n) = record { number = 0; place = 0; total = n }
 judged_by (Err r) = faulty_at (number_of r.rule) r.place
+
+-- each case, member by member; nothing is lost
+abbrev pub JudgedByCase : Type 0
+JudgedByCase =
+    ((n : ℕ) → judged_by (Ok n) ≡ record { number = 0; place = 0; total = n })
+    × ((r : Refusal) → judged_by (Err r) ≡ record { number = number_of r.rule; place = r.place; total = 0 })
+    × ((a b : Result ℕ Refusal) → judged_by a ≡ judged_by b → a ≡ b)
 
 -- what is given for such a sheet
 abbrev pub write_value : Bool → List ℕ → List ℕ → Filled

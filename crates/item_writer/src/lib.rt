@@ -11,7 +11,7 @@ ghost use Rattle.options.specs.Relay.{relay_write_value};
 ghost use Rattle.buffer.specs.Written.{Written};
 ghost use Rattle.refusal.specs.Refused.{rule_in};
 ghost use Rattle.filled.specs.Fill.{Fills};
-ghost use Rattle.item_writer.specs.Judge.{sheet_of, wrong_tag_of, broken_rule_value, judge_of, judged_by, write_value, AllBrief};
+ghost use Rattle.item_writer.specs.Judge.{sheet_of, wrong_tag_of, broken_rule_value, judge_of, judged_by, write_value, AllBrief, JudgedByCase};
 
 use refusal::{Refusal, Rule};
 use sheet::Step;
@@ -116,3 +116,8 @@ pub fn relay_write(s: &[u8], out: &mut [u8]) -> Result<usize, Refusal>
     }
     write::<false>(s, out)
 }
+
+// The statement of specs/ holds.
+pub fn proved()
+    ensures { JudgedByCase }
+{}

@@ -1,6 +1,7 @@
 -- Laws that the proofs of the functions share.
 pub mod ByKind
 mod Entries
+mod Names
 pub mod Numbering
 pub mod High
 mod Rules

@@ -7,7 +7,7 @@ ghost use Rattle.options.specs.Kinds.{kind_of, multiples, is_length, addresses_o
 ghost use Rattle.options.specs.SubOptions.{sub_options, fill_fault};
 ghost use Rattle.refusal.specs.Refused.{fault_or_none};
 ghost use Rattle.kinds.specs.Numbers.{row_at, kind_numbered, kind_from, fault_of, fault_numbered, length_fits_value, value_fault_in, is_list_value, list_fault_value, short_list_fault_value, long_list_fault_value, number_fault_value, NumbersKeepTheKind, FaultsKeepTheNumber};
-ghost use Rattle.kinds.specs.Named.{kind_given};
+ghost use Rattle.kinds.specs.Named.{kind_given, KindsByCase};
 ghost use Rattle.kinds.specs.Parts.{octet_fits_value, number16_fits_value};
 
 use refusal::Fault;
@@ -416,5 +416,5 @@ pub fn suboptions_fault(d: &[u8]) -> Option<Fault>
 
 // The statements of specs/ hold.
 pub fn proved()
-    ensures { NumbersKeepTheKind × FaultsKeepTheNumber }
+    ensures { NumbersKeepTheKind × FaultsKeepTheNumber × KindsByCase }
 {}

@@ -1,8 +1,9 @@
 -- WHAT A WALK OVER THE ITEMS OF VENDOR INFORMATION TELLS: the contract of `items`. Assumes nothing.
-use Rattle.std.specs.Prelude.{Bool, true, false, ℕ, length, Result, Ok, Err}
+use Rattle.std.specs.Prelude.{◌≡◌, IfErr, Bool, true, false, ℕ, length, Result, Ok, Err}
 use Rattle.options.specs.Answers.{record_bytes}
 use Rattle.options.specs.Vendor.{Items, listed, past, item_records}
 use Rattle.refusal.specs.declared.Refusal.{Refusal}
+use Rattle.refusal.specs.declared.Rule.TheVariants.{ItemTruncated}
 
 -- whether an item runs past, and where; else the bytes that all take as records
 pub record Measured : Type 0 where
@@ -19,3 +20,10 @@ measure_of (listed xs) = record { past = false; place = 0; size = length (record
 abbrev pub measured_by : Result ℕ Refusal → Measured
 measured_by (Ok n) = record { past = false; place = 0; size = n }
 measured_by (Err r) = record { past = true; place = r.place; size = 0 }
+
+-- each case, member by member; of refusals by the rule that items are refused by nothing is lost
+abbrev pub MeasuredByCase : Type 0
+MeasuredByCase =
+    ((n : ℕ) → measured_by (Ok n) ≡ record { past = false; place = 0; size = n })
+    × ((r : Refusal) → measured_by (Err r) ≡ record { past = true; place = r.place; size = 0 })
+    × ((a b : Result ℕ Refusal) → IfErr a (λ r. r.rule ≡ ItemTruncated) → IfErr b (λ r. r.rule ≡ ItemTruncated) → measured_by a ≡ measured_by b → a ≡ b)

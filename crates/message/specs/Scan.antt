@@ -4,6 +4,8 @@ use Rattle.options.specs.Message.{Opt, place, data_start, end_to_end}
 use Rattle.options.specs.Reading.{Reading, accepted, refused, items, overload, read_message, pieces}
 use Rattle.options.specs.Answers.{present}
 use Rattle.refusal.specs.declared.Refusal.{Refusal}
+use Rattle.refusal.specs.declared.Rule.{Rule}
+use Rattle.refusal.specs.declared.Rule.TheVariants.{MessageTooShort, MessageTooLong, BadCookie, OptionTruncated, NoEnd, BadOverload, Duplicate}
 use Rattle.refusal.specs.Refused.{number_of}
 use Rattle.message.specs.declared.Scanned.{Scanned}
 
@@ -75,3 +77,26 @@ told_of w = record { start = w.start; last = w.last; whole = w.whole; used = w.u
 abbrev pub told_by : Result Scanned Refusal → Scan
 told_by (Ok w) = told_of w
 told_by (Err r) = refused_at (number_of r.rule) r.place
+
+-- each case, member by member; nothing is lost
+abbrev pub ToldByCase : Type 0
+ToldByCase =
+    ((w : Scanned) → told_by (Ok w) ≡ record { start = w.start; last = w.last; whole = w.whole; used = w.used; count = w.count; place = 0; over = w.over; number = 0 })
+    × ((r : Refusal) → told_by (Err r) ≡ record { start = 0; last = 0; whole = 0; used = 0; count = 0; place = r.place; over = 0; number = number_of r.rule })
+    × ((a b : Result Scanned Refusal) → told_by a ≡ told_by b → a ≡ b)
+
+-- the rules that a message is refused by, with their numbers
+pub data OfMessage : Rule → ℕ → Type 0 where
+  too_short : OfMessage MessageTooShort 1
+  too_long : OfMessage MessageTooLong 2
+  wrong_cookie : OfMessage BadCookie 3
+  runs_past : OfMessage OptionTruncated 4
+  no_end : OfMessage NoEnd 5
+  wrong_52 : OfMessage BadOverload 6
+  second_52 : OfMessage Duplicate 7
+
+-- by these and no others a message is refused, by each with its number
+abbrev pub RefusedByCase : Type 0
+RefusedByCase =
+    (m : List ℕ) (r : Refusal) → ((want : ℕ) → told_by (Err r) ≡ scan_of want m → OfMessage r.rule (scan_of want m).number)
+    × ((w : List ℕ) → Surveys m (told_by (Err r)) w → OfMessage r.rule (survey_of m).number)

@@ -11,8 +11,8 @@ ghost use Rattle.message.specs.Active.{active_in};
 ghost use Rattle.message.specs.Part.{part_at};
 ghost use Rattle.refusal.specs.Refused.{number_in, rule_in};
 ghost use Rattle.refusal.specs.declared.Rule.TheVariants.{ItemTruncated};
-ghost use Rattle.message.specs.Scan.{told_of, told_by, scan_of, Surveys};
-ghost use Rattle.message.specs.Items.{measure_of, measured_by};
+ghost use Rattle.message.specs.Scan.{told_of, told_by, scan_of, Surveys, ToldByCase, RefusedByCase};
+ghost use Rattle.message.specs.Items.{measure_of, measured_by, MeasuredByCase};
 ghost use Rattle.message.specs.Walk.{tallied, set_after, past_stop, past_set, Passes, over_stop_value, over_after_value, kept_after_value, ending_of, out_of, Lasts, last_of, Few, Walks};
 ghost use Rattle.message.specs.Judging.{stop_number};
 ghost use Rattle.message.specs.Walking.{unfit_of, scanned_of, start_from, end_place, Laid, Gives, low_watched, Bare, Tells};
@@ -556,7 +556,7 @@ pub fn items(f: &[u8]) -> Result<usize, Refusal>
     }
 }
 
-// The statement of specs/ holds.
+// The statements of specs/ hold.
 pub fn proved()
-    ensures { FieldsComeBack }
+    ensures { FieldsComeBack × ToldByCase × RefusedByCase × MeasuredByCase }
 {}

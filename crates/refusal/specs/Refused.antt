@@ -74,3 +74,34 @@ place_in (Err r) = r.place
 abbrev pub rule_in : {A : Type 0} → Result A Rule → ℕ
 rule_in (Ok x) = 0
 rule_in (Err r) = number_of r
+
+-- ---- Each case with its own number
+
+abbrev pub NumbersByCase : Type 0
+NumbersByCase =
+    (number_of MessageTooShort ≡ 1) × (number_of MessageTooLong ≡ 2) × (number_of BadCookie ≡ 3) × (number_of OptionTruncated ≡ 4) × (number_of NoEnd ≡ 5)
+    × (number_of BadOverload ≡ 6) × (number_of Duplicate ≡ 7) × (number_of BadLength ≡ 8) × (number_of BadValue ≡ 9) × (number_of BadCode ≡ 10)
+    × (number_of NoRoom ≡ 11) × (number_of RecordTruncated ≡ 12) × (number_of RecordTooLong ≡ 13) × (number_of RouterBeforeMask ≡ 14) × (number_of BadPermission ≡ 15)
+    × (number_of SheetTooLong ≡ 16) × (number_of ItemTruncated ≡ 17) × (number_of BadIndexCount ≡ 18) × (number_of BadIndexEntry ≡ 19) × (number_of BadGroup ≡ 20)
+    × (number_of TooDeep ≡ 21) × (number_of NoWayBack ≡ 22) × (number_of RelayNotLast ≡ 23) × (number_of BadCapture ≡ 24) × (number_of NoReply ≡ 25)
+    × (number_of BadRoute ≡ 26)
+
+-- no fault is 0; nothing is lost
+abbrev pub FaultsByCase : Type 0
+FaultsByCase =
+    (fault_or_none None ≡ 0) × (fault_or_none (Some Length) ≡ 8) × (fault_or_none (Some Value) ≡ 9)
+    × ((a b : Option Fault) → fault_or_none a ≡ fault_or_none b → a ≡ b)
+
+-- where nothing is refused 0 and 0, else the refusal's number and place, which tell all of it
+abbrev pub RefusalsByCase : Type 0
+RefusalsByCase =
+    ((x : Unit {0}) → (number_in (Ok x) ≡ 0) × (place_in (Ok x) ≡ 0))
+    × ((r : Refusal) → (number_in {A = Unit {0}} (Err r) ≡ number_of r.rule) × (place_in {A = Unit {0}} (Err r) ≡ r.place))
+    × ((a b : Result (Unit {0}) Refusal) → number_in a ≡ number_in b → place_in a ≡ place_in b → a ≡ b)
+
+-- where no rule is broken 0, else the number of the rule, which tells it
+abbrev pub RulesByCase : Type 0
+RulesByCase =
+    ((x : Unit {0}) → rule_in (Ok x) ≡ 0)
+    × ((r : Rule) → rule_in {A = Unit {0}} (Err r) ≡ number_of r)
+    × ((a b : Result (Unit {0}) Rule) → rule_in a ≡ rule_in b → a ≡ b)

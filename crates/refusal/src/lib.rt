@@ -2,7 +2,7 @@
 #![tactic(auto)]
 
 ghost use Rattle.std.specs.Prelude.{◌≡◌};
-ghost use Rattle.refusal.specs.Refused.{number_of, fault_number, rule_of, RulesAreNumbered, NumbersTellRules, FaultsAreRules};
+ghost use Rattle.refusal.specs.Refused.{number_of, fault_number, rule_of, RulesAreNumbered, NumbersTellRules, FaultsAreRules, NumbersByCase, FaultsByCase, RefusalsByCase, RulesByCase};
 
 // The rules, with their numbers.
 #[derive(Clone, Copy, Debug, PartialEq, Eq)]
@@ -87,5 +87,5 @@ impl From<Fault> for Rule {
 
 // The statements of specs/ hold.
 pub fn proved()
-    ensures { RulesAreNumbered × NumbersTellRules × FaultsAreRules }
+    ensures { RulesAreNumbered × NumbersTellRules × FaultsAreRules × NumbersByCase × FaultsByCase × RefusalsByCase × RulesByCase }
 {}

@@ -9,7 +9,7 @@ use Rattle.route_theorems.proofs.Steps.{steps_give_the_routes}
 use Rattle.routes.specs.declared.RouteReader.{RouteReader}
 use Rattle.routes.specs.declared.Entry.{Entry}
 use Rattle.routes.specs.declared.Route.{Route}
-use Rattle.routes.specs.Walk.{route_of, step_by, route_in, place_in, moved, Gives, no_more, one_more, ReaderGivesTheRoutes, EntryKeepsTheStep, DoneGivesNothing}
+use Rattle.routes.specs.Walk.{route_of, step_by, route_in, place_in, moved, Gives, no_more, one_more, ReaderGivesTheRoutes, entry_of, EntryKeepsTheStep, DoneGivesNothing}
 
 abbrev at_step : RouteReader → RouteStep → RouteReader
 at_step r x = record { list = r.list; at = place_in r.at x }
@@ -39,9 +39,16 @@ from_steps {d} {i} (claims.one_more {after = k} {r = y} e g) r p q =
 pub reader_gives_the_routes : ReaderGivesTheRoutes
 reader_gives_the_routes r rs = Iff.trans (to_steps, λ g. from_steps g r refl refl) (steps_give_the_routes r.list.now r.at rs)
 
+kept : (s : RouteStep) → step_by (entry_of s) ≡ s
+kept (next r k) = refl
+kept done = refl
+
+back : (e : Option Entry) → entry_of (step_by e) ≡ e
+back None = refl
+back (Some x) = refl
+
 pub entry_keeps_the_step : EntryKeepsTheStep
-entry_keeps_the_step (next r k) = refl
-entry_keeps_the_step done = refl
+entry_keeps_the_step = (kept, back)
 
 none : (e : Option Entry) → step_by e ≡ done → e ≡ None
 none None e = refl

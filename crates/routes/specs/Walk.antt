@@ -62,9 +62,9 @@ abbrev pub entry_of : RouteStep → Option Entry
 entry_of (next r after) = Some (record { route = record { destination = r.destination; width = r.width; router = r.router }; next = after })
 entry_of done = None
 
--- an entry loses nothing of the step
+-- an entry loses nothing of the step, and the step determines the entry
 abbrev pub EntryKeepsTheStep : Type 0
-EntryKeepsTheStep = (s : RouteStep) → step_by (entry_of s) ≡ s
+EntryKeepsTheStep = ((s : RouteStep) → step_by (entry_of s) ≡ s) × ((e : Option Entry) → entry_of (step_by e) ≡ e)
 
 -- done is no entry: it gives no route and leaves the place as it was
 pub record NothingGiven (at : ℕ) : Type 0 where

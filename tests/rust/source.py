@@ -321,7 +321,7 @@ REFUSED = [
     (F + "println!();\n    1\n}\n", 3), (F + "unsafe { 1 }\n}\n", 3), ("static X: u8 = 1;\n", 1), ("pub fn f<T>(m: T) -> usize\n    where T: Copy\n{\n    1\n}\n", 2),
     ("impl S {}\n", 1), ("trait T where Self: Copy {}\n", 1), ("impl E {\n    #[inline]\n    fn g() {}\n}\n", 2), ("impl E {\n    static X: u8 = 1;\n}\n", 2), ("mod x;\n", 1), ("type T = u8;\n", 1), ("ghost let x = 1;\n", 1), ("ghost fn g() {}\n", 1),
     (F + "ghost use x.{y};\n    1\n}\n", 3), ("  ghost use x.{y};\n", 1), ("/* a */\n", 1), ("/// a\n", 1), (F + "m.to_vec()\n}\n", 3), (F + "m.len().pow(3)\n}\n", 3), ("fn g<T: Drop>(x: T) {}\n", 1), ("fn g<const N: E>() {}\n", 1), ("fn g<T = u8>() {}\n", 1),
-    ("impl E {\n    ghost x = { a };    fn g() {}\n}\n", 2), ("impl E {\n    ghost x = { a \"}\" };\n}\n", 2), ("impl E {\n    ghost x = a;\n}\n", 2),
+    ("impl E {\n    ghost x = { a };    fn g() {}\n}\n", 2), ("impl E {\n    ghost x = { a \"}\" };\n}\n", 2), ("impl E {\n    ghost x = a;\n}\n", 2), ("impl E {\n    pub fn g(self)\n        requires { a }\n    {}\n}\n", 2),
     (F + "if let E::A = e() {\n    }\n    1\n}\n", 3), (F + "match 1 {\n        0..3 => 2,\n        _ => 3,\n    }\n}\n", 4),
     (F + "match 1 {\n        0..=x => 2,\n        _ => 3,\n    }\n}\n", 4), ("#[cold]\nfn g() {}\n", 1), ("#[derive(Serialize)]\nstruct S {}\n", 1),
     (F + "std::mem::size()\n}\n", 3), (F + "other::g()\n}\n", 3), (F + "Unknown { a: 1 };\n    1\n}\n", 3), ("fn g(x: Unknown) {}\n", 1),

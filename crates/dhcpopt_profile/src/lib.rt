@@ -209,7 +209,7 @@ fn judged(m: &[u8], index: &[u16]) -> Result<u32, Refusal>
     Ok(formed + there + order)
 }
 
-// The same of a message: it is walked once, to build its index; a code in pieces is then looked up by a walk of its own.
+// The same of a message, refusals as the code has them.
 fn judge(m: &[u8]) -> Result<u32, Refusal>
     ensures { plain_by result ≡ plain_profile (profile m.now) }
 {
@@ -218,7 +218,7 @@ fn judge(m: &[u8]) -> Result<u32, Refusal>
     judged(m, &index)
 }
 
-// Judges a reply.
+// Judges a reply. The message is walked once, to build its index; a code in pieces is then looked up by a walk of its own.
 #[unsafe(no_mangle)]
 pub extern "C" fn dhcpopt_profile(m: &[u8]) -> PlainProfile
     ensures { result ≡ plain_profile (profile m.now) }

@@ -8,7 +8,7 @@ ghost use Rattle.dhcpopt_profile.specs.Plain.{plain_profile};
 
 use dhcpopt_profile::PlainProfile;
 
-// Judges a reply.
+// Judges a reply. The message is walked once, to build its index; a code in pieces is then looked up by a walk of its own.
 #[unsafe(no_mangle)]
 pub extern "C" fn dhcpopt_profile(m: &[u8]) -> PlainProfile
     ensures { result ≡ plain_profile (profile m.now) }

@@ -122,7 +122,7 @@ def calls(machine, archive):
 
 
 def face():
-    """A program in Rust, which uses the crate under its own names."""
+    """Programs in Rust, which use the crate under its own names."""
     out = os.path.join(OUT, "native")
     words = [rustc(MACHINES["native"][0]), "--edition", "2021", "-D", "warnings"]
     run(words + ["--crate-type", "rlib", "--crate-name", "dhcpopt", "-o", f"{out}/libface.rlib", "target/rust/dhcpopt/src/lib.rs"])
@@ -132,6 +132,26 @@ def face():
             printed = run([f"{out}/lease_time"], stdin=file)
         if printed != wanted:
             failed(f"rust/lease_time.rs prints\n{printed}")
+    run(words + ["--extern", f"dhcpopt={out}/libface.rlib", "-o", f"{out}/stages", "tests/rust/stages.rs"])
+    captures = open("crates/report_captures/stdin", "rb").read()
+    whole = captures[:stages(captures).rindex("t") + 1]
+    for given in (captures, whole, whole + b"\x01\x00", whole + b"\x01\x00\x00\x02" + whole):
+        with open(f"{out}/given", "wb") as file:
+            file.write(given)
+        with open(f"{out}/given", "rb") as file:
+            printed = run([f"{out}/stages"], stdin=file)
+        if printed != stages(given) + "\n":
+            failed(f"tests/rust/stages.rs prints\n{printed}")
+
+
+def stages(file):
+    """The stage after each byte of a file of captures, by the rules: behind its tag, its high length byte, in its message, at the next tag; or stopped."""
+    told, i = "", 0
+    while i < len(file) and file[i] == 1:
+        size = int.from_bytes(file[i + 1:i + 3], "big")
+        told += "hl" + "m" * size + "t"
+        i += 3 + size
+    return told[:len(file)].ljust(len(file), "s")
 
 
 def page():

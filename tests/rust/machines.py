@@ -208,8 +208,8 @@ def recorder():
 # Wrong edits of the made crate, of which the replaying must tell: file, old, new.
 WRONG = [
     ("dhcpopt_reader", "if status == 5 { start - 2 } else { 0 }", "if status == 5 { start - 1 } else { 0 }"),
-    ("codeset", "k * 64 + u64::trailing_zeros(x)", "k * 64 + u64::leading_zeros(x)"),
-    ("field_writer", "room[0] = 255;", "room[0] = 254;"),
+    ("codeset", "k as u32 * 64 + x.trailing_zeros()", "k as u32 * 64 + x.leading_zeros()"),
+    ("field_writer", "*end = 255;", "*end = 254;"),
     ("records", "let need = t.used + codes as usize * 3;", "let need = t.used + codes as usize * 3 + (usize::MAX - 300);"),
 ]
 

@@ -4,3 +4,4 @@ pub mod Keeping
 pub mod Runs
 pub mod Beginning
 pub mod States
+pub mod Cases

@@ -4,6 +4,7 @@ use Rattle.options.specs.KindClaims.{AllBytes}
 use Rattle.options.specs.Captures.{most_messages, Tally, noted, noted_as, Stage, at_tag, at_high, at_low, inside, stopped, Run, begun, within, step_in, fed}
 use Rattle.options.specs.Reading.{read_message, refused}
 use Rattle.std.specs.Prelude.{Option, None}
+use Rattle.tally.specs.declared.Lease.{Lease}
 use Rattle.tally.specs.Noted.{lease_of, lease_in, widened_by, Lent, Notes}
 use Rattle.captures.specs.declared.Progress.{Progress}
 use Rattle.captures.specs.declared.Standing as coded
@@ -36,6 +37,16 @@ told_by q =
       messages = q.messages;
       lease = q.lease;
     }
+
+-- each stage with its own numbers, and the other members as they are
+abbrev pub StandingByCase : Type 0
+StandingByCase =
+    (b m : ℕ) (l : Option Lease)
+    → (told_by (record { began = b; stage = Tag; messages = m; lease = l }) ≡ record { began = b; stage = 0; high = 0; size = 0; read = 0; messages = m; lease = l })
+    × (told_by (record { began = b; stage = High; messages = m; lease = l }) ≡ record { began = b; stage = 1; high = 0; size = 0; read = 0; messages = m; lease = l })
+    × ((h : ℕ) → told_by (record { began = b; stage = Low h; messages = m; lease = l }) ≡ record { began = b; stage = 2; high = h; size = 0; read = 0; messages = m; lease = l })
+    × ((n k : ℕ) → told_by (record { began = b; stage = Message n k; messages = m; lease = l }) ≡ record { began = b; stage = 0; high = 0; size = n; read = k; messages = m; lease = l })
+    × (told_by (record { began = b; stage = Stopped; messages = m; lease = l }) ≡ record { began = b; stage = 3; high = 0; size = 0; read = 0; messages = m; lease = l })
 
 -- ---- [H4, H5] The running tally of any numbers: as `Captures.fed`, but that what a message adds is kept in 64 bits
 

@@ -4,7 +4,7 @@
 ghost use Rattle.std.specs.Prelude.{◌≡◌, ℕ, ◌+◌, ◌<◌, ◌≤◌, ◌⊎◌, List, [], ◌∷◌, length, take, if◌then◌else◌, nat_eq, nat_lt};
 ghost use Rattle.options.specs.Captures.{most_messages};
 ghost use Rattle.tally.specs.Noted.{StaysLent};
-ghost use Rattle.captures.specs.Standing.{told_by, taken_value, tidied as tidy, EveryStateStands, StandingIsTidy, NeverWraps, none_read, BegunEmpty, Takes, Feeds, behind_of, NotesKept, Closes, Whole, Fitting, Keeps};
+ghost use Rattle.captures.specs.Standing.{told_by, taken_value, tidied as tidy, EveryStateStands, StandingIsTidy, NeverWraps, StandingByCase, none_read, BegunEmpty, Takes, Feeds, behind_of, NotesKept, Closes, Whole, Fitting, Keeps};
 
 use refusal::Rule;
 use tally::{Lease, Tally};
@@ -290,5 +290,5 @@ pub fn feed(part: &[u8], p: Progress, message: &mut [u8; 1472], tally: &mut Tall
 
 // What the contracts rest on holds.
 pub fn proved()
-    ensures { BegunEmpty × EveryStateStands × StandingIsTidy × NeverWraps }
+    ensures { BegunEmpty × EveryStateStands × StandingIsTidy × NeverWraps × StandingByCase }
 {}
